@@ -1,0 +1,7 @@
+mod format;
+mod name;
+mod reading;
+
+pub use format::Format;
+pub use name::Name;
+pub use reading::Reading;

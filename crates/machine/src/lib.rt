@@ -1,0 +1,25 @@
+mod access;
+mod address;
+mod bay;
+mod bits;
+mod effect;
+mod execute;
+mod loads;
+mod mode;
+mod pointers;
+mod products;
+mod registers;
+mod stop;
+mod stores;
+mod strings;
+mod sums;
+
+pub use bay::Bay;
+pub use bay::Grant;
+pub use bay::Kind;
+pub use registers::Registers;
+pub use stop::Access;
+pub use stop::Cause;
+pub use stop::Denial;
+pub use stop::Place;
+pub use stop::Stop;

@@ -1,0 +1,7 @@
+use mir.Syntax.{w32}
+use native.Mathlib.Omega.{arith}
+use Rattle.word.proofs.Cuts.{low-product}
+use Rattle.word.proofs.arithmetic.low_product32.Needs as need
+
+pub returns : need.returns
+returns c = low-product w32 (c .args .a) (c .args .b) (omega arith) (omega arith) (omega arith)
