@@ -6,3 +6,5 @@ pub mod Address
 pub mod Bits
 pub mod Strings
 pub mod Instructions
+pub mod Step
+pub mod Turn

@@ -1,0 +1,4 @@
+mod tables;
+mod book;
+pub use tables::Tables;
+pub use book::Book;

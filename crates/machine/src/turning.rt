@@ -1,0 +1,30 @@
+ghost use Prim.Native.Nat.{ℕ, _+_, _-_, _*_, _%_, _<_};
+ghost use Rattle.book.specs.Readings.{reading};
+ghost use Rattle.machine.specs.Turn.{Run, run};
+ghost use mathlib.Core.Path.{_≡_};
+
+use crate::bay::Bay;
+use crate::registers::Registers;
+use crate::stepping::step;
+use crate::stop::Stop;
+use book::Book;
+use store::Store;
+
+// The steps that a turn completed, and the stop that it met; without one its budget is spent.
+#[derive(Clone, Copy)]
+pub struct Turned {
+    pub steps: u16,
+    pub stop: Option<Stop>,
+}
+
+// Steps up to the budget, or up to a stop.
+pub fn turn<S: Store>(book: &Book, registers: &mut Registers, store: &mut S, bay: &Bay, budget: u16) -> Turned
+    ensures { λ q. ⌜ _≡_ {A = Run} (record { registers = now (registers .exit); bytes = S·Store .bytes (now (store .exit)); turned = q }) (run (reading (now (book .entry) .tables)) (now (bay .entry)) budget 0 (now (registers .entry)) (S·Store .bytes (now (store .entry)))) ⌝ }
+{
+    for steps in 0..budget {
+        if let Err(stop) = step(book, registers, store, bay) {
+            return Turned { steps, stop: Some(stop) };
+        }
+    }
+    Turned { steps: budget, stop: None }
+}
