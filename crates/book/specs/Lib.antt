@@ -1,1 +1,10 @@
+pub mod Columns
+pub mod Rows
+pub mod Patterns
+pub mod Sound
+pub mod Faults
+pub mod Add
+pub mod Read
+pub mod Wholes
 pub mod Readings
+pub mod Put

@@ -1,15 +1,12 @@
-ghost use Rattle.book.specs.Readings.{reading};
 ghost use mathlib.Core.Path.{_≡_};
+ghost use mathlib.Core.Bool.{true};
+ghost use Rattle.book.specs.Sound.{sound};
+
 use crate::tables::Tables;
-use code::Reading;
-#[derive(Drop)]
+
+// A code book: which names have which numbers, and how the formats are told apart.
+#[derive(Clone, Copy)]
 pub struct Book {
     pub tables: Tables,
-}
-impl Book {
-    pub fn reading(&self, word: u16) -> Reading
-        ensures { λ r. ⌜ r ≡ reading (now (self .entry) .tables) word ⌝ }
-    {
-        Reading::Undefined
-    }
+    ghost sound: { sound tables ≡ true },
 }

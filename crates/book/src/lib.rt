@@ -1,4 +1,17 @@
-mod tables;
+mod add;
 mod book;
-pub use tables::Tables;
+mod fields;
+mod patterns;
+mod read;
+mod reading;
+mod refused;
+mod rows;
+mod tables;
+mod unput;
+mod whole;
+
 pub use book::Book;
+pub use refused::Fault;
+pub use refused::Refused;
+pub use tables::Tables;
+pub use unput::Unput;

@@ -1,2 +1,3 @@
 mod Grants
 mod Turns
+pub mod Split

@@ -1,5 +1,5 @@
 -- Which bytes a step may reach, and how items of one, two and four bytes are read and claimed.
-use Prim.Native.Nat.{ℕ, _+_, _-_, _%_}
+use Prim.Native.Nat.{ℕ, zero, suc, _+_, _-_, _%_}
 use lib.Dec.{leb}
 use lib.ListN.{getD}
 use mathlib.Core.Bool.{Bool, true, false, cond, _&&_, _||_}
@@ -40,6 +40,14 @@ granted (g ∷ gs) w at = covers g w at || granted gs w at
 -- some grant of the bay has the byte, and is of a kind that lets this be done to it
 abbrev pub allows : Bay → Access → ℕ → Bool
 allows bay w at = granted (bay .grants) w at
+
+-- each of n bytes, from an address on; past 65,535 there is none
+abbrev pub allows-all : Bay → Access → ℕ → ℕ → Bool
+allows-all bay w at zero = true
+allows-all bay w at (suc n) = allows bay w at && allows-all bay w (at + 1) n
+
+abbrev pub within : Bay → Access → ℕ → ℕ → Bool
+within bay w at n = leb (at + n) 65536 && allows-all bay w at n
 
 abbrev pub checked : Bay → Access → ℕ → Result (Unit {0}) Denial
 checked bay w at = cond (allows bay w at) (Ok tt) (Err (record { access = w; byte = at }))

@@ -1,4 +1,5 @@
 pub mod Registers
+pub mod Stops
 pub mod Access
 pub mod Plan
 pub mod Act
@@ -8,3 +9,4 @@ pub mod Strings
 pub mod Instructions
 pub mod Step
 pub mod Turn
+pub mod Laws

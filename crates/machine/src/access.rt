@@ -1,5 +1,5 @@
 ghost use Prim.Native.Nat.{ℕ, _+_, _-_, _*_, _%_, _<_};
-ghost use Rattle.machine.specs.Access.{allows, byte, checked, full, full-at, granted, half, half-at, half-may, item-may, item-read, permits, seen};
+ghost use Rattle.machine.specs.Access.{allows, byte, checked, full, full-at, granted, half, half-at, half-may, item-may, item-read, permits, seen, within};
 ghost use Rattle.machine.specs.declared.stop.Access.the-variants.{Read, Write};
 ghost use mathlib.Core.Path.{_≡_};
 
@@ -102,4 +102,19 @@ pub(crate) fn read_full<S: Store>(store: &S, bay: &Bay, at: u16) -> Result<u32, 
     let high = read_pair(store, bay, at)?;
     let low = read_pair(store, bay, at.wrapping_add(2))?;
     Ok(full_of(high, low))
+}
+
+// Whether so many bytes, from an address on, all lie in grants that allow this; no byte past 65,535 does.
+pub fn reaches(bay: &Bay, access: Access, address: u16, length: usize) -> bool
+    ensures { λ r. ⌜ r ≡ within (now (bay .entry)) access address length ⌝ }
+{
+    if length > 65536 - address as usize {
+        return false;
+    }
+    for k in 0..length {
+        if !any_covers(&bay.grants, access, (address as usize + k) as u16) {
+            return false;
+        }
+    }
+    true
 }

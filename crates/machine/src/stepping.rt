@@ -3,6 +3,7 @@ ghost use Rattle.book.specs.Readings.{reading};
 ghost use Rattle.machine.specs.Access.{sight};
 ghost use Rattle.machine.specs.Act.{perform};
 ghost use Rattle.machine.specs.Step.{answer, begun, bytes-after, defined, format-a, half-into, into, planned, registers-after, stepped, stopped};
+ghost use Rattle.machine.specs.Stops.{told-of};
 ghost use mathlib.Core.Path.{_≡_};
 
 use crate::access::read_half;
@@ -98,6 +99,7 @@ fn commit<S: Store>(store: &mut S, pending: Pending)
 // One step. A stop alters nothing.
 pub fn step<S: Store>(book: &Book, registers: &mut Registers, store: &mut S, bay: &Bay) -> Result<(), Stop>
     ensures answers { λ q. ⌜ q ≡ answer (stepped (reading (now (book .entry) .tables)) (now (registers .entry)) (sight (now (bay .entry)) (S·Store .bytes (now (store .entry))))) ⌝ }
+    ensures numbers { λ q. ⌜ told-of q ≡ told-of (answer (stepped (reading (now (book .entry) .tables)) (now (registers .entry)) (sight (now (bay .entry)) (S·Store .bytes (now (store .entry)))))) ⌝ }
     ensures registers { λ q. ⌜ now (registers .exit) ≡ registers-after (now (registers .entry)) (stepped (reading (now (book .entry) .tables)) (now (registers .entry)) (sight (now (bay .entry)) (S·Store .bytes (now (store .entry))))) ⌝ }
     ensures bytes { λ q. ⌜ S·Store .bytes (now (store .exit)) ≡ bytes-after (S·Store .bytes (now (store .entry))) (stepped (reading (now (book .entry) .tables)) (now (registers .entry)) (sight (now (bay .entry)) (S·Store .bytes (now (store .entry))))) ⌝ }
 {

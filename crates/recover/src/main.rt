@@ -1,0 +1,11 @@
+// Runs a shore program over a file of records: recover BOOK IMAGE JOB
+mod inputs;
+mod report;
+mod work;
+
+use std::error::AnyError;
+use work::recover;
+
+fn main(rt: LibcRuntime) -> Result<(), AnyError> {
+    rt.report(recover(&rt))
+}

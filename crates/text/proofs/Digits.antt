@@ -1,0 +1,23 @@
+use Prim.Native.Nat.{ℕ, _+_, _-_, _*_, _<_, _≤_}
+use native.Mathlib.Omega.{arith}
+use mathlib.Core.Path.{_≡_, refl, sym, _∙_, ap}
+use mathlib.Core.Bool.{Bool, true, false, cond, _&&_}
+use mathlib.Core.List.{List, [], _∷_}
+use lib.Dec.{eqb, leb}
+use lib.ListN.{length, drop, getD}
+use Rattle.std.specs.declared.option.Option.{Option}
+use Rattle.std.specs.declared.option.Option.the-variants.{Some, None}
+use Rattle.std.proofs.shelf.Lists.{at-drop-more, at-drop-all}
+use Rattle.std.proofs.shelf.Tests.{cond-both, lt-leb, and-right, cond-false}
+use Rattle.text.specs.Numbers.{digits}
+
+pub digits-more : (low high n : ℕ) (s : List ℕ) (i : ℕ) → i < length s → digits low high n (drop i s) ≡ cond (leb 48 (getD s i 0) && leb (getD s i 0) 57) (digits low high (n * 10 + (getD s i 0 - 48)) (drop (i + 1) s)) None
+digits-more low high n s i h = at-drop-more (digits low high n) s i 0 h
+
+pub digits-all : (low high n : ℕ) (s : List ℕ) (i : ℕ) → length s ≤ i → digits low high n (drop i s) ≡ cond (leb low n && leb n high) (Some n) None
+digits-all low high n s i h = at-drop-all (digits low high n) s i h
+
+-- more digits never make a number smaller
+pub digits-past : (low high n : ℕ) (s : List ℕ) → high < n → digits low high n s ≡ None
+digits-past low high n [] h = cond-false (leb low n && leb n high) (Some n) None (and-right _ _ (lt-leb n high h))
+digits-past low high n (d ∷ ds) h = cond-both (leb 48 d && leb d 57) (digits low high (n * 10 + (d - 48)) ds) None (λ r. r ≡ None) (λ _. digits-past low high (n * 10 + (d - 48)) ds (omega arith)) (λ _. refl)
