@@ -11,11 +11,10 @@ use Rattle.std.specs.shelf.Text.{sameBytes}
 use Rattle.std.specs.declared.option.Option.{Option}
 use Rattle.std.specs.declared.option.Option.the-variants.{Some, None}
 use Rattle.std.proofs.shelf.Bits.{pow-add}
-use Rattle.std.proofs.shelf.Tests.{and-parts, and-from, or-parts, or-from, ne-eqb, eqb-false, eqb-true, eq-eqb, lt-ltb, cond-both, cases-bool, cond-true, cond-false, false≢true, true≢false}
+use Rattle.std.proofs.shelf.Tests.{and-parts, and-from, or-parts, or-from, ne-eqb, eqb-false, eqb-true, eq-eqb, lt-ltb, cond-both, cases-bool, cond-true, cond-false, not-true, true≢false}
 use Rattle.code.specs.declared.name.Name.{Name}
 use Rattle.code.specs.Names.{rank, named, spelled}
 use Rattle.text.specs.Search.{Bytes}
-use Rattle.text.specs.Numbers.{digits, number-of}
 use Rattle.book.specs.Rows.{is-name, has-name}
 use Rattle.book.specs.Patterns.{length-at, bits, pattern-of, begins, meets, clashes}
 use Rattle.book.specs.Sound.{between, entry, entries, alone, apart, legal-pattern, free, parted}
@@ -23,10 +22,6 @@ use Rattle.book.specs.Sound.{between, entry, entries, alone, apart, legal-patt
 pub nothing : {X : Type 0} (o : Option X) → isSome o ≡ false → o ≡ None
 nothing None h = refl
 nothing (Some x) h = absurd (true≢false h)
-
-un-not : (b : Bool) → not b ≡ true → b ≡ false
-un-not true h = absurd (false≢true h)
-un-not false h = refl
 
 -- one more legal entry
 entries-set : {X : Type 0} (legal : ℕ → X → Bool) (i : ℕ) (t : List (Option X)) (k : ℕ) (x : X) → legal (i + k) x ≡ true → entries legal i t ≡ true → entries legal i (set t k (Some x)) ≡ true
@@ -71,7 +66,7 @@ apart-set (None ∷ t) (suc k) n a e h = apart-set t k n a e h
 apart-set (Some m ∷ t) (suc k) n a e h =
     let p = or-parts (eqb (rank m) (rank n)) (has-name n t) h in
     let q = and-parts (not (has-name m t)) (apart t) a in
-    and-from _ _ (ap not (has-set m n t k (un-not (has-name m t) (q .0)) (turned m n (p .0)))) (apart-set t k n (q .1) e (p .1))
+    and-from _ _ (ap not (has-set m n t k (not-true (has-name m t) (q .0)) (turned m n (p .0)))) (apart-set t k n (q .1) e (p .1))
 
 -- two patterns meet in either order
 meets-turned : (f v g u : ℕ) → meets f v g (Some u) ≡ false → meets g u f (Some v) ≡ false
@@ -106,7 +101,7 @@ parted-at i (Some u ∷ ps) (suc k) x c h =
     let q : i + suc k ≡ i + 1 + k = omega arith in
     let r = or-parts (meets (i + suc k) x i (Some u)) (clashes (i + suc k) x (i + 1) ps) c in
     let m = and-parts (not (clashes i u (i + 1) ps)) (parted (i + 1) ps) h in
-    and-from _ _ (ap not (clash-set i u (i + 1) ps k x (un-not _ (m .0)) (subst (λ j. meets i u j (Some x) ≡ false) q (meets-turned (i + suc k) x i u (r .0))))) (parted-at (i + 1) ps k x (subst (λ j. clashes j x (i + 1) ps ≡ false) q (r .1)) (m .1))
+    and-from _ _ (ap not (clash-set i u (i + 1) ps k x (not-true _ (m .0)) (subst (λ j. meets i u j (Some x) ≡ false) q (meets-turned (i + suc k) x i u (r .0))))) (parted-at (i + 1) ps k x (subst (λ j. clashes j x (i + 1) ps ≡ false) q (r .1)) (m .1))
 
 -- a pattern that clashes with none
 pub parted-set : (ps : List (Option ℕ)) (k x : ℕ) → clashes k x 0 ps ≡ false → parted 0 ps ≡ true → parted 0 (set ps k (Some x)) ≡ true
@@ -123,25 +118,6 @@ named-every P (m ∷ ns) s n a e =
     (λ t. let i : Some m ≡ Some n = sym (cond-true (sameBytes (spelled m) s) (Some m) (named ns s) t) ∙ e in let q : m ≡ n = cc in subst (λ x. P x ≡ true) q (and-parts (P m) (every-name P ns) a .0))
     (λ t. named-every P ns s n (and-parts (P m) (every-name P ns) a .1) (sym (cond-false (sameBytes (spelled m) s) (Some m) (named ns s) t) ∙ e))
     (cases-bool (sameBytes (spelled m) s))
-
-digits-within : (low high n : ℕ) (s : Bytes) (k : ℕ) → digits low high n s ≡ Some k → between low high k ≡ true
-digits-within low high n [] k e =
-    cond-both (between low high n) (Some n) None (λ o. o ≡ Some k → between low high k ≡ true)
-    (λ t r. let q : n ≡ k = cc in subst (λ m. between low high m ≡ true) q t)
-    (λ _ r. let z : _≡_ {A = ℕ} 0 1 = cc in absurd (omega arith))
-    e
-digits-within low high n (d ∷ ds) k e =
-    cond-both (leb 48 d && leb d 57) _ None (λ o. o ≡ Some k → between low high k ≡ true)
-    (λ _. digits-within low high (n * 10 + (d - 48)) ds k)
-    (λ _ r. let z : _≡_ {A = ℕ} 0 1 = cc in absurd (omega arith))
-    e
-
-pub number-within : (low high : ℕ) (s : Bytes) (k : ℕ) → number-of low high s ≡ Some k → between low high k ≡ true
-number-within low high s k e =
-    cond-both (eqb (length s) 0 || (eqb (getD s 0 0) 48 && ltb 1 (length s))) None (digits low high 0 s) (λ o. o ≡ Some k → between low high k ≡ true)
-    (λ _ r. let z : _≡_ {A = ℕ} 0 1 = cc in absurd (omega arith))
-    (λ _. digits-within low high 0 s k)
-    e
 
 bits-bound : (i n : ℕ) (ds : Bytes) (v : ℕ) → n < 2 ^ i → bits n ds ≡ Some v → v < 2 ^ (i + length ds)
 bits-bound i n [] v h e =
@@ -162,7 +138,7 @@ pub pattern-fits : (i : ℕ) (s : Bytes) (v : ℕ) → pattern-of (length-at i) 
 pattern-fits i s v e =
     cond-both (eqb (length s) (length-at i)) (bits 0 s) None (λ o. o ≡ Some v → legal-pattern i v ≡ true)
     (λ t r.
-        let q : 0 + length s ≡ length-at i = omega (arith, eqb-true (length s) (length-at i) t) in
-        lt-ltb v (2 ^ length-at i) (subst (λ m. v < 2 ^ m) q (bits-bound 0 0 s v (omega arith) r)))
+    let q : 0 + length s ≡ length-at i = omega (arith, eqb-true (length s) (length-at i) t) in
+    lt-ltb v (2 ^ length-at i) (subst (λ m. v < 2 ^ m) q (bits-bound 0 0 s v (omega arith) r)))
     (λ _ r. let z : _≡_ {A = ℕ} 0 1 = cc in absurd (omega arith))
     e

@@ -9,11 +9,11 @@ use Rattle.std.specs.declared.option.Option.{Option}
 use Rattle.std.specs.declared.option.Option.the-variants.{Some, None}
 use Rattle.std.specs.declared.result.Result.{Result}
 use Rattle.std.specs.declared.result.Result.the-variants.{Ok, Err}
-use Rattle.std.proofs.shelf.Lists.{length-drop}
 use Rattle.std.proofs.shelf.Tests.{lt-ltb, ne-eqb}
 use Rattle.std.proofs.shelf.Ways.{tells}
 use Rattle.text.specs.Search.{Bytes, place, cut-at, empty}
 use Rattle.text.specs.Next.{First, a-line, the-end, unended, line-of, line-2, rest-of, rest-2, line-after}
+use Rattle.text.proofs.Following.{number-on}
 use Rattle.book.specs.declared.tables.Tables.{Tables}
 use Rattle.book.specs.Columns.{Three, three}
 use Rattle.book.specs.Add.{added}
@@ -60,16 +60,6 @@ goes s l n b o h e = gather-line s n b ∙ ap (by-line n b (rest-of s)) (sym h) 
 
 pub malformed : (s l : Bytes) (n : ℕ) (b : Tables) → a-line l ≡ line-of s → None ≡ three l → gather [] n b s ≡ Err (11, n)
 malformed s l n b h e = goes s l n b None h e
-
--- a line was found, so there is a line feed
-fed : (s l : Bytes) → a-line l ≡ line-of s → place 10 s < length s
-fed s l h = grind (arith, tells)
-
-number-on : (s l : Bytes) (n : ℕ) → a-line l ≡ line-of s → line-after s n ≡ n + 1
-number-on s l n h = let e = lt-ltb (place 10 s) (length s) (fed s l h) in simp e
-
-pub shorter : (s l : Bytes) → a-line l ≡ line-of s → length (rest-of s) < length s
-shorter s l h = let p = fed s l h in let e = lt-ltb (place 10 s) (length s) p in simp (e, length-drop) (omega arith)
 
 pub goes-on : (s s' l : Bytes) (n n' : ℕ) (b b' : Tables) (f : Three) → a-line l ≡ line-of s → s' ≡ rest-of s → n' ≡ line-after s n → Some f ≡ three l → Ok b' ≡ added b (f .0) (f .1) (f .2) → gather [] n' b' s' ≡ gather [] n b s
 goes-on s s' l n n' b b' f h r m e a =

@@ -15,6 +15,7 @@ use Rattle.code.specs.Formats.{format-of}
 use Rattle.code.specs.Names.{rank, names-a, names-l, names-b, name-a, name-l, name-b}
 use Rattle.text.specs.Search.{Bytes, empty}
 use Rattle.text.specs.Numbers.{number-of}
+use Rattle.text.proofs.Digits.{number-within}
 use Rattle.book.specs.declared.tables.Tables.{Tables}
 use Rattle.book.specs.Columns.{Three, three}
 use Rattle.book.specs.Rows.{has-name, taken}
@@ -23,7 +24,7 @@ use Rattle.book.specs.Sound.{between, reserved, legal-a, legal-l, legal-b, leg
 use Rattle.book.specs.Add.{need, with-a, with-l, with-b, with-p, add-f, add-a, add-l, add-b, by-letter, added}
 use Rattle.book.specs.Read.{Read, ended, then-go, line-go, gather, no-tables, read-rule}
 use Rattle.book.proofs.Facts.{Facts, facts, sound-by}
-use Rattle.book.proofs.Entering.{nothing, legal-set, apart-set, parted-set, named-every, number-within, pattern-fits}
+use Rattle.book.proofs.Entering.{nothing, legal-set, apart-set, parted-set, named-every, pattern-fits}
 
 -- what is read is sound
 abbrev pub Keeps : {E : Type 0} → Result Tables E → Type 0

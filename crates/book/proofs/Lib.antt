@@ -3,3 +3,9 @@ pub mod Gather
 pub mod Facts
 pub mod Entering
 pub mod Keeping
+pub mod Limits
+pub mod Forth
+pub mod Sole
+pub mod Again
+pub mod Made
+pub mod Trips

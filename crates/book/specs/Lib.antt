@@ -8,3 +8,5 @@ pub mod Read
 pub mod Wholes
 pub mod Readings
 pub mod Put
+pub mod Layout
+pub mod Laws

@@ -18,7 +18,6 @@ use Rattle.book.specs.declared.tables.Tables.{Tables}
 use Rattle.book.specs.declared.unput.Unput.{Unput}
 use Rattle.book.specs.declared.unput.Unput.the-variants.{Unavailable, Unfit}
 use Rattle.book.specs.Rows.{is-name}
-use Rattle.book.specs.Patterns.{place-of}
 use Rattle.book.specs.Wholes.{word-of, branches}
 use Rattle.book.specs.Add.{need}
 
@@ -74,8 +73,17 @@ word-a A5 k v m d = k * 1024 + v * 64 + m * 16 + d
 word-a L k v m d = 0
 word-a B k v m d = 0
 
+abbrev pub pattern-at : Tables → Format → Option ℕ
+pattern-at t A1 = getD (t .patterns) 0 None
+pattern-at t A2 = getD (t .patterns) 1 None
+pattern-at t A3 = getD (t .patterns) 2 None
+pattern-at t A4 = getD (t .patterns) 3 None
+pattern-at t A5 = getD (t .patterns) 4 None
+pattern-at t L = None
+pattern-at t B = None
+
 abbrev pub put-a : Tables → Name → Format → ℤ → ℤ → Result ℕ ℕ
-put-a t n f m d = need (number-in n 0 (t .a)) 21 (λ k. need (place-of f) 21 (λ i. need (getD (t .patterns) i None) 21 (λ v. need (unsigned-in (m-limit f) m) 22 (λ x. need (unsigned-in (d-limit f) d) 22 (λ y. Ok (word-a f k v x y))))))
+put-a t n f m d = need (number-in n 0 (t .a)) 21 (λ k. need (pattern-at t f) 21 (λ v. need (unsigned-in (m-limit f) m) 22 (λ x. need (unsigned-in (d-limit f) d) 22 (λ y. Ok (word-a f k v x y)))))
 
 -- M is not used, and D stands below the rest
 abbrev pub below : ℕ → ℤ → Option ℕ → Result ℕ ℕ

@@ -2,7 +2,7 @@ use Prim.Native.Nat.{ℕ, _/_, _%_}
 use mathlib.Core.Bool.{Bool, false, cond}
 use mathlib.Core.List.{List}
 use lib.Dec.{eqb, ltb}
-use lib.IntN.{ℤ, pos}
+use lib.IntN.{pos}
 use lib.ListN.{getD}
 use Rattle.std.specs.declared.option.Option.{Option}
 use Rattle.std.specs.declared.option.Option.the-variants.{Some, None}
@@ -14,17 +14,14 @@ use Rattle.code.specs.declared.reading.Reading.{Reading}
 use Rattle.code.specs.declared.reading.Reading.the-variants.{Undefined, NoPattern, Defined}
 use Rattle.word.specs.Fields.{as-signed}
 use Rattle.book.specs.declared.tables.Tables.{Tables}
-use Rattle.book.specs.Wholes.{whole-of, branches}
+use Rattle.book.specs.Wholes.{whole-of, l-d}
 
 -- format B: the number in bits 4 and 5, and a signed D in the other ten
 abbrev pub in-b : Option Name → ℕ → Reading
 in-b None w = Undefined
 in-b (Some n) w = Defined n B 0 (as-signed 512 (w % 1024))
 
--- format L: the number in bits 2 to 7, and D in the other eight, which the branches have signed
-abbrev pub l-d : Name → ℕ → ℤ
-l-d n d = cond (branches n) (as-signed 128 d) (pos d)
-
+-- format L: the number in bits 2 to 7, and D in the other eight
 abbrev pub by-l : Option Name → ℕ → Reading
 by-l None w = Undefined
 by-l (Some n) w = Defined n L 0 (l-d n (w % 256))

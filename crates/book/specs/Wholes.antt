@@ -2,11 +2,13 @@ use Prim.Native.Nat.{ℕ}
 use mathlib.Core.Bool.{Bool, cond, _&&_}
 use mathlib.Core.List.{List, [], _∷_}
 use lib.Dec.{eqb, leb}
+use lib.IntN.{ℤ, pos}
 use Rattle.std.specs.declared.option.Option.{Option}
 use Rattle.std.specs.declared.option.Option.the-variants.{Some, None}
 use Rattle.code.specs.declared.name.Name.{Name}
 use Rattle.code.specs.declared.name.Name.the-variants.{Bz, Bof, Mbs, Cpbs, Trbs, Scbs, Mhs, Rk, Hrk, Sfn, Sim, Sfm}
 use Rattle.code.specs.Names.{rank}
+use Rattle.word.specs.Fields.{as-signed}
 
 -- the words that are one instruction each, in every book
 abbrev pub whole-words : List (Name × ℕ)
@@ -29,3 +31,7 @@ word-of n = word-in whole-words n
 -- BZ, BNZ, BN, BNN, BCA and BOF, which stand together among the names
 abbrev pub branches : Name → Bool
 branches n = leb (rank Bz) (rank n) && leb (rank n) (rank Bof)
+
+-- what a D of eight bits means, which the branches have signed
+abbrev pub l-d : Name → ℕ → ℤ
+l-d n d = cond (branches n) (as-signed 128 d) (pos d)

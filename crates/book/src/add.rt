@@ -1,7 +1,6 @@
 ghost use mathlib.Core.Path.{_≡_};
 ghost use Rattle.book.specs.Add.{added, add-f, add-a, add-l, add-b};
 ghost use Rattle.book.specs.Faults.{coded};
-
 use crate::fields::Fields;
 use crate::patterns::clash;
 use crate::patterns::pattern;
@@ -46,7 +45,11 @@ fn add_a_name(tables: Tables, name: &[u8], value: &[u8]) -> Result<Tables, Fault
         return Err(Fault::Value);
     };
     let mut t = tables;
-    if enter(&mut t.a, n, k) { Ok(t) } else { Err(Fault::Repeated) }
+    if enter(&mut t.a, n, k) {
+        Ok(t)
+    } else {
+        Err(Fault::Repeated)
+    }
 }
 
 fn add_l_name(tables: Tables, name: &[u8], value: &[u8]) -> Result<Tables, Fault>
@@ -62,7 +65,11 @@ fn add_l_name(tables: Tables, name: &[u8], value: &[u8]) -> Result<Tables, Fault
         18 | 22 | 23 | 39 | 55 => Err(Fault::Value),
         _ => {
             let mut t = tables;
-            if enter(&mut t.l, n, k) { Ok(t) } else { Err(Fault::Repeated) }
+            if enter(&mut t.l, n, k) {
+                Ok(t)
+            } else {
+                Err(Fault::Repeated)
+            }
         }
     }
 }
@@ -77,7 +84,11 @@ fn add_b_name(tables: Tables, name: &[u8], value: &[u8]) -> Result<Tables, Fault
         return Err(Fault::Value);
     };
     let mut t = tables;
-    if enter(&mut t.b, n, k) { Ok(t) } else { Err(Fault::Repeated) }
+    if enter(&mut t.b, n, k) {
+        Ok(t)
+    } else {
+        Err(Fault::Repeated)
+    }
 }
 
 // The letter says which names a line may have, and how its value is read.

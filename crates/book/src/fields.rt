@@ -1,6 +1,5 @@
 ghost use mathlib.Core.Path.{_≡_};
 ghost use Rattle.book.specs.Columns.{three, texts};
-
 use text::cut;
 use text::find;
 
@@ -18,8 +17,16 @@ pub fn fields_by_tab(line: &[u8]) -> Option<Fields<'_>>
 {
     let (letter, rest) = cut(line, b'\t')?;
     let (name, value) = cut(rest, b'\t')?;
-    if letter.is_empty() || name.is_empty() || value.is_empty() || find(value, b'\t') < value.len() {
+    if letter.is_empty()
+        || name.is_empty()
+        || value.is_empty()
+        || find(value, b'\t') < value.len()
+    {
         return None;
     }
-    Some(Fields { letter, name, value })
+    Some(Fields {
+        letter,
+        name,
+        value,
+    })
 }

@@ -2,6 +2,7 @@ mod add;
 mod book;
 mod fields;
 mod patterns;
+mod put;
 mod read;
 mod reading;
 mod refused;

@@ -3,7 +3,6 @@ ghost use mathlib.Core.Path.{_≡_};
 ghost use lib.ListN.{length};
 ghost use Rattle.std.specs.Options.{Cases};
 ghost use Rattle.book.specs.Patterns.{place-of, length-at, pattern-of, begins, clashes, every};
-
 use code::Format;
 
 // The place of an A format's pattern among the five.

@@ -1,7 +1,6 @@
 ghost use mathlib.Core.Path.{_≡_};
 ghost use Rattle.book.specs.Faults.{spoken, numbered};
 ghost use Rattle.book.specs.Read.{new-tables, read-rule, told, kept};
-
 use crate::add::add_line;
 use crate::book::Book;
 use crate::fields::fields_by_tab;
@@ -16,15 +15,33 @@ fn read_text(text: &[u8]) -> Result<Tables, Refused>
     ensures { λ r. ⌜ spoken r ≡ read-rule (now (text .entry)) ⌝ }
 {
     let mut lines = Lines::new(text);
-    let mut tables = Tables { a: [None; 64], l: [None; 64], b: [None; 4], patterns: [None; 5] };
+    let mut tables = Tables {
+        a: [None; 64],
+        l: [None; 64],
+        b: [None; 4],
+        patterns: [None; 5],
+    };
     'lines: loop {
         let line = lines.line;
         match lines.next_line() {
-            Line::Unended => return Err(Refused { fault: Fault::Fields, line }),
-            Line::End => return if complete(&tables.patterns) { Ok(tables) } else { Err(Refused { fault: Fault::Missing, line }) },
+            Line::Unended => return Err(Refused {
+                fault: Fault::Fields,
+                line,
+            }),
+            Line::End => return if complete(&tables.patterns) {
+                Ok(tables)
+            } else {
+                Err(Refused {
+                    fault: Fault::Missing,
+                    line,
+                })
+            },
             Line::Text(s) => {
                 let Some(f) = fields_by_tab(s) else {
-                    return Err(Refused { fault: Fault::Fields, line });
+                    return Err(Refused {
+                        fault: Fault::Fields,
+                        line,
+                    });
                 };
                 match add_line(tables, f) {
                     Ok(t) => tables = t,
@@ -40,7 +57,14 @@ impl Book {
     pub fn new() -> Book
         ensures { λ r. ⌜ r .tables ≡ new-tables ⌝ }
     {
-        Book { tables: Tables { a: [None; 64], l: [None; 64], b: [None; 4], patterns: [Some(0b10), Some(0), Some(0b1110), Some(0b110), Some(0b1111)] } }
+        Book {
+            tables: Tables {
+                a: [None; 64],
+                l: [None; 64],
+                b: [None; 4],
+                patterns: [Some(0b10), Some(0), Some(0b1110), Some(0b110), Some(0b1111)],
+            },
+        }
     }
 
     // Takes the book that the text has; a text that is refused leaves the book as it was.

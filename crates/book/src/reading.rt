@@ -1,7 +1,7 @@
 ghost use Prim.Native.Nat.{_/_, _%_, _<_};
 ghost use mathlib.Core.Path.{_≡_};
 ghost use Rattle.book.specs.Readings.{fits, pick, m-of, d-of, in-l, in-a, reading};
-
+ghost use Rattle.book.specs.Laws.{Laid, Sole, Backs};
 use crate::book::Book;
 use crate::tables::Tables;
 use crate::whole::is_branch;
@@ -73,7 +73,12 @@ fn read_a(tables: &Tables, word: u16) -> Reading
     };
     match tables.a[(word >> 10) as usize] {
         None => Reading::Undefined,
-        Some(name) => Reading::Defined(name, format, m_field(format, word), d_field(format, word) as i16),
+        Some(name) => Reading::Defined(
+            name,
+            format,
+            m_field(format, word),
+            d_field(format, word) as i16,
+        ),
     }
 }
 
@@ -97,19 +102,28 @@ fn read_l(tables: &Tables, word: u16) -> Reading
     }
 }
 
+fn read_word(tables: &Tables, word: u16) -> Reading
+    ensures { λ r. ⌜ r ≡ reading (now (tables .entry)) word ⌝ }
+{
+    match word {
+        0..=0x03ff => Reading::Undefined,
+        0x0400..=0x0fff => match tables.b[(word >> 10) as usize] {
+            None => Reading::Undefined,
+            Some(name) => Reading::Defined(name, Format::B, 0, signed(low(word, 10), 512)),
+        },
+        0x1000..=0x3fff => read_l(tables, word),
+        0x4000..=0xffff => read_a(tables, word),
+    }
+}
+
 impl Book {
-    // What a word means under this book.
+    // What a word means under this book: its one layout, if it has any.
     pub fn reading(&self, word: u16) -> Reading
-        ensures { λ r. ⌜ r ≡ reading (now (self .entry) .tables) word ⌝ }
+        ensures is { λ r. ⌜ r ≡ reading (now (self .entry) .tables) word ⌝ }
+        ensures laid { λ r. ⌜ Laid (now (self .entry) .tables) word r ⌝ }
+        ensures sole { λ r. ⌜ Sole (now (self .entry) .tables) word r ⌝ }
+        ensures again { λ r. ⌜ Backs (now (self .entry) .tables) word r ⌝ }
     {
-        match word {
-            0..=0x03ff => Reading::Undefined,
-            0x0400..=0x0fff => match self.tables.b[(word >> 10) as usize] {
-                None => Reading::Undefined,
-                Some(name) => Reading::Defined(name, Format::B, 0, signed(low(word, 10), 512)),
-            },
-            0x1000..=0x3fff => read_l(&self.tables, word),
-            0x4000..=0xffff => read_a(&self.tables, word),
-        }
+        read_word(&self.tables, word)
     }
 }

@@ -4,7 +4,6 @@ ghost use mathlib.Core.Bool.{not, cond};
 ghost use lib.ListN.{length, set};
 ghost use Rattle.std.specs.declared.option.Option.the-variants.{Some};
 ghost use Rattle.book.specs.Rows.{has-name, taken};
-
 use code::Name;
 use code::rank_of;
 

@@ -1,6 +1,5 @@
 ghost use mathlib.Core.Path.{_≡_};
 ghost use Rattle.book.specs.Wholes.{whole-of, word-of, branches};
-
 use code::Name;
 use code::rank_of;
 
@@ -45,5 +44,8 @@ pub fn word_of_name(name: Name) -> Option<u16>
 pub fn is_branch(name: Name) -> bool
     ensures { λ r. ⌜ r ≡ branches name ⌝ }
 {
-    matches!(name, Name::Bz | Name::Bnz | Name::Bn | Name::Bnn | Name::Bca | Name::Bof)
+    matches!(
+        name,
+        Name::Bz | Name::Bnz | Name::Bn | Name::Bnn | Name::Bca | Name::Bof
+    )
 }

@@ -1,2 +1,3 @@
 pub mod Tables
 pub mod FormatTables
+pub mod Ranks

@@ -1,11 +1,18 @@
 ghost use Prim.Native.Nat.{ℕ};
 ghost use mathlib.Core.Path.{_≡_};
 ghost use Rattle.code.specs.Formats.{spelled, formed, format-of};
-
 use crate::format::Format;
 use text::same_text;
 
-const FORMATS: [Format; 7] = [Format::A1, Format::A2, Format::A3, Format::A4, Format::A5, Format::L, Format::B];
+const FORMATS: [Format; 7] = [
+    Format::A1,
+    Format::A2,
+    Format::A3,
+    Format::A4,
+    Format::A5,
+    Format::L,
+    Format::B,
+];
 
 pub fn format_spelling(format: Format) -> &'static [u8]
     ensures { λ r. ⌜ now r ≡ spelled format ⌝ }

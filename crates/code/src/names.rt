@@ -1,17 +1,74 @@
 ghost use Prim.Native.Nat.{ℕ};
 ghost use mathlib.Core.Path.{_≡_};
 ghost use Rattle.code.specs.Names.{spelled, named, rank, name-a, name-l, name-b, name-fixed, name-of};
-
 use crate::name::Name;
 use text::same_text;
 
-const A_NAMES: [Name; 31] = [Name::Ldb, Name::Ld, Name::Ldw, Name::Ldx, Name::Stb, Name::St, Name::Stw, Name::Stx, Name::Ad, Name::Adw, Name::Sb, Name::Sbw, Name::Adx, Name::Sbx, Name::Cp, Name::Cpw, Name::Cpx, Name::Nw, Name::Nx, Name::Mx, Name::Dx, Name::Ldy, Name::Sty, Name::Ady, Name::Sby, Name::Ldz, Name::Stz, Name::Adz, Name::Sbz, Name::Bi, Name::Bli];
+const A_NAMES: [Name; 31] = [
+    Name::Ldb,
+    Name::Ld,
+    Name::Ldw,
+    Name::Ldx,
+    Name::Stb,
+    Name::St,
+    Name::Stw,
+    Name::Stx,
+    Name::Ad,
+    Name::Adw,
+    Name::Sb,
+    Name::Sbw,
+    Name::Adx,
+    Name::Sbx,
+    Name::Cp,
+    Name::Cpw,
+    Name::Cpx,
+    Name::Nw,
+    Name::Nx,
+    Name::Mx,
+    Name::Dx,
+    Name::Ldy,
+    Name::Sty,
+    Name::Ady,
+    Name::Sby,
+    Name::Ldz,
+    Name::Stz,
+    Name::Adz,
+    Name::Sbz,
+    Name::Bi,
+    Name::Bli,
+];
 
-const L_NAMES: [Name; 13] = [Name::Ldl, Name::Adl, Name::Sbl, Name::Cpl, Name::Nl, Name::Ml, Name::Bitx, Name::Bz, Name::Bnz, Name::Bn, Name::Bnn, Name::Bca, Name::Bof];
+const L_NAMES: [Name; 13] = [
+    Name::Ldl,
+    Name::Adl,
+    Name::Sbl,
+    Name::Cpl,
+    Name::Nl,
+    Name::Ml,
+    Name::Bitx,
+    Name::Bz,
+    Name::Bnz,
+    Name::Bn,
+    Name::Bnn,
+    Name::Bca,
+    Name::Bof,
+];
 
 const B_NAMES: [Name; 2] = [Name::B, Name::Bl];
 
-const FIXED_NAMES: [Name; 11] = [Name::Mbs, Name::Cpbs, Name::Trbs, Name::Scbs, Name::Mhs, Name::Rk, Name::Hrk, Name::Sfn, Name::Sim, Name::Sfm, Name::Bitl];
+const FIXED_NAMES: [Name; 11] = [
+    Name::Mbs,
+    Name::Cpbs,
+    Name::Trbs,
+    Name::Scbs,
+    Name::Mhs,
+    Name::Rk,
+    Name::Hrk,
+    Name::Sfn,
+    Name::Sim,
+    Name::Sfm,
+    Name::Bitl,
+];
 
 pub fn spelling(name: Name) -> &'static [u8]
     ensures { λ r. ⌜ now r ≡ spelled name ⌝ }
@@ -123,5 +180,8 @@ fn fixed_name(text: &[u8]) -> Option<Name>
 pub fn name_of(text: &[u8]) -> Option<Name>
     ensures { λ r. ⌜ r ≡ name-of (now (text .entry)) ⌝ }
 {
-    a_name(text).or(l_name(text)).or(b_name(text)).or(fixed_name(text))
+    a_name(text)
+        .or(l_name(text))
+        .or(b_name(text))
+        .or(fixed_name(text))
 }

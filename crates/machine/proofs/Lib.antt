@@ -1,3 +1,7 @@
 mod Grants
 mod Turns
 pub mod Split
+pub mod Frame
+pub mod Local
+mod Stopping
+mod Moving

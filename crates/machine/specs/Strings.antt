@@ -3,7 +3,7 @@ use Prim.Native.Nat.{ℕ, _+_, _-_, _%_}
 use lib.Bits.{bitAnd}
 use lib.Dec.{eqb, ltb}
 use mathlib.Core.Bool.{Bool, true, false, cond, not}
-use Rattle.machine.specs.Access.{byte, half}
+use Rattle.machine.specs.Access.{Item, byte, half}
 use Rattle.machine.specs.Act.{Act, done, store, _>>=_}
 use Rattle.machine.specs.Plan.{read}
 use Rattle.machine.specs.Registers.{minus, plus, times, with-nz, with-s, with-x}
@@ -33,15 +33,24 @@ passed r x = cond (eqb x 0) (complete r) (again r x)
 abbrev pub judged : Registers → ℕ → Bool → Bool → Registers
 judged r x ends negative = cond (eqb x 0) (complete r) (cond ends (ended r x negative) (again r x))
 
+-- the element x of the string at a register's address: of bytes, and of halfwords
+abbrev pub byte-at : ℕ → ℕ → ℕ
+byte-at start x = plus start x
+
+abbrev pub half-at : ℕ → ℕ → ℕ
+half-at start x = plus start (times x 2)
+
+-- an item is moved from one address to another, by the new x
+abbrev pub moved : Item → (ℕ → ℕ) → (ℕ → ℕ) → Registers → ℕ → Act
+moved i from to r x = do
+  v ← read Operand i (from x)
+  store i (to x) v (passed r x)
+
 abbrev pub moved-byte : Registers → ℕ → Act
-moved-byte r x = do
-  b ← read Operand byte (plus (r .z) x)
-  store byte (plus (r .y) x) b (passed r x)
+moved-byte r x = moved byte (byte-at (r .z)) (byte-at (r .y)) r x
 
 abbrev pub moved-half : Registers → ℕ → Act
-moved-half r x = do
-  v ← read Operand half (plus (r .z) (times x 2))
-  store half (plus (r .y) (times x 2)) v (passed r x)
+moved-half r x = moved half (half-at (r .z)) (half-at (r .y)) r x
 
 abbrev pub translated : Registers → ℕ → Act
 translated r x = do

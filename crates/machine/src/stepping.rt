@@ -3,6 +3,7 @@ ghost use Rattle.book.specs.Readings.{reading};
 ghost use Rattle.machine.specs.Access.{sight};
 ghost use Rattle.machine.specs.Act.{perform};
 ghost use Rattle.machine.specs.Step.{answer, begun, bytes-after, defined, format-a, half-into, into, planned, registers-after, stepped, stopped};
+ghost use Rattle.machine.specs.Laws.{Local, Only, Unaltered, operand-granted};
 ghost use Rattle.machine.specs.Stops.{told-of};
 ghost use mathlib.Core.Path.{_≡_};
 
@@ -96,10 +97,8 @@ fn commit<S: Store>(store: &mut S, pending: Pending)
     }
 }
 
-// One step. A stop alters nothing.
-pub fn step<S: Store>(book: &Book, registers: &mut Registers, store: &mut S, bay: &Bay) -> Result<(), Stop>
+pub(crate) fn obey_next<S: Store>(book: &Book, registers: &mut Registers, store: &mut S, bay: &Bay) -> Result<(), Stop>
     ensures answers { λ q. ⌜ q ≡ answer (stepped (reading (now (book .entry) .tables)) (now (registers .entry)) (sight (now (bay .entry)) (S·Store .bytes (now (store .entry))))) ⌝ }
-    ensures numbers { λ q. ⌜ told-of q ≡ told-of (answer (stepped (reading (now (book .entry) .tables)) (now (registers .entry)) (sight (now (bay .entry)) (S·Store .bytes (now (store .entry)))))) ⌝ }
     ensures registers { λ q. ⌜ now (registers .exit) ≡ registers-after (now (registers .entry)) (stepped (reading (now (book .entry) .tables)) (now (registers .entry)) (sight (now (bay .entry)) (S·Store .bytes (now (store .entry))))) ⌝ }
     ensures bytes { λ q. ⌜ S·Store .bytes (now (store .exit)) ≡ bytes-after (S·Store .bytes (now (store .entry))) (stepped (reading (now (book .entry) .tables)) (now (registers .entry)) (sight (now (bay .entry)) (S·Store .bytes (now (store .entry))))) ⌝ }
 {
@@ -107,4 +106,17 @@ pub fn step<S: Store>(book: &Book, registers: &mut Registers, store: &mut S, bay
     *registers = effect.registers;
     commit(store, effect.pending);
     Ok(())
+}
+
+// One step, or the stop that it meets.
+pub fn step<S: Store>(book: &Book, registers: &mut Registers, store: &mut S, bay: &Bay) -> Result<(), Stop>
+    ensures answers { λ q. ⌜ q ≡ answer (stepped (reading (now (book .entry) .tables)) (now (registers .entry)) (sight (now (bay .entry)) (S·Store .bytes (now (store .entry))))) ⌝ }
+    ensures numbers { λ q. ⌜ told-of q ≡ told-of (answer (stepped (reading (now (book .entry) .tables)) (now (registers .entry)) (sight (now (bay .entry)) (S·Store .bytes (now (store .entry)))))) ⌝ }
+    ensures registers { λ q. ⌜ now (registers .exit) ≡ registers-after (now (registers .entry)) (stepped (reading (now (book .entry) .tables)) (now (registers .entry)) (sight (now (bay .entry)) (S·Store .bytes (now (store .entry))))) ⌝ }
+    ensures bytes { λ q. ⌜ S·Store .bytes (now (store .exit)) ≡ bytes-after (S·Store .bytes (now (store .entry))) (stepped (reading (now (book .entry) .tables)) (now (registers .entry)) (sight (now (bay .entry)) (S·Store .bytes (now (store .entry))))) ⌝ }
+    ensures stop_alters_nothing { λ q. ⌜ Unaltered q (now (registers .entry)) (now (registers .exit)) (S·Store .bytes (now (store .entry))) (S·Store .bytes (now (store .exit))) ⌝ }
+    ensures writes_its_operand { λ q. ⌜ Only (operand-granted (reading (now (book .entry) .tables)) (now (bay .entry)) (now (registers .entry)) (S·Store .bytes (now (store .entry)))) (S·Store .bytes (now (store .entry))) (S·Store .bytes (now (store .exit))) ⌝ }
+    ensures reads_granted_bytes { λ _. ⌜ Local ⌝ }
+{
+    obey_next(book, registers, store, bay)
 }

@@ -1,11 +1,12 @@
 ghost use Prim.Native.Nat.{ℕ, _+_, _-_, _*_, _%_, _<_};
 ghost use Rattle.book.specs.Readings.{reading};
-ghost use Rattle.machine.specs.Turn.{Run, run};
+ghost use Rattle.machine.specs.Laws.{Moves-bytes, Moves-halfwords, Split};
+ghost use Rattle.machine.specs.Turn.{Run, all-spent, run, stopped-after};
 ghost use mathlib.Core.Path.{_≡_};
 
 use crate::bay::Bay;
 use crate::registers::Registers;
-use crate::stepping::step;
+use crate::stepping::obey_next;
 use crate::stop::Stop;
 use book::Book;
 use store::Store;
@@ -17,14 +18,37 @@ pub struct Turned {
     pub stop: Option<Stop>,
 }
 
-// Steps up to the budget, or up to a stop.
-pub fn turn<S: Store>(book: &Book, registers: &mut Registers, store: &mut S, bay: &Bay, budget: u16) -> Turned
+impl Turned {
+    fn spent(budget: u16) -> Turned
+        ensures { λ q. ⌜ q ≡ all-spent budget ⌝ }
+    {
+        Turned { steps: budget, stop: None }
+    }
+
+    fn stopped(steps: u16, stop: Stop) -> Turned
+        ensures { λ q. ⌜ q ≡ stopped-after steps stop ⌝ }
+    {
+        Turned { steps, stop: Some(stop) }
+    }
+}
+
+fn run_steps<S: Store>(book: &Book, registers: &mut Registers, store: &mut S, bay: &Bay, budget: u16) -> Turned
     ensures { λ q. ⌜ _≡_ {A = Run} (record { registers = now (registers .exit); bytes = S·Store .bytes (now (store .exit)); turned = q }) (run (reading (now (book .entry) .tables)) (now (bay .entry)) budget 0 (now (registers .entry)) (S·Store .bytes (now (store .entry)))) ⌝ }
 {
     for steps in 0..budget {
-        if let Err(stop) = step(book, registers, store, bay) {
-            return Turned { steps, stop: Some(stop) };
+        if let Err(stop) = obey_next(book, registers, store, bay) {
+            return Turned::stopped(steps, stop);
         }
     }
-    Turned { steps: budget, stop: None }
+    Turned::spent(budget)
+}
+
+// Steps up to the budget, or up to a stop.
+pub fn turn<S: Store>(book: &Book, registers: &mut Registers, store: &mut S, bay: &Bay, budget: u16) -> Turned
+    ensures runs { λ q. ⌜ _≡_ {A = Run} (record { registers = now (registers .exit); bytes = S·Store .bytes (now (store .exit)); turned = q }) (run (reading (now (book .entry) .tables)) (now (bay .entry)) budget 0 (now (registers .entry)) (S·Store .bytes (now (store .entry)))) ⌝ }
+    ensures turns_join { λ _. ⌜ Split ⌝ }
+    ensures moves_byte_strings { λ _. ⌜ Moves-bytes ⌝ }
+    ensures moves_halfword_strings { λ _. ⌜ Moves-halfwords ⌝ }
+{
+    run_steps(book, registers, store, bay, budget)
 }

@@ -12,10 +12,10 @@ use std::alloc::AllocError;
 pub fn write_all<S: Store>(store: &mut S, address: u16, bytes: &[u8])
     ensures { λ _. ⌜ S·Store .bytes (now (store .exit)) ≡ written (S·Store .bytes (now (store .entry))) address (now (bytes .entry)) ⌝ }
 {
-    let mut at = address;
+    let mut to = address;
     for byte in bytes {
-        store.write(at, *byte);
-        at = at.wrapping_add(1);
+        store.write(to, *byte);
+        to = to.wrapping_add(1);
     }
 }
 
@@ -23,10 +23,10 @@ pub fn write_all<S: Store>(store: &mut S, address: u16, bytes: &[u8])
 pub fn append_all<S: Store>(store: &S, address: u16, length: usize, out: &mut Vec<u8>) -> Result<(), AllocError>
     ensures { λ r. ⌜ made r (λ _. vec-items (now (out .exit)) ≡ vec-items (now (out .entry)) ++ taken (S·Store .bytes (now (store .entry))) address length) ⌝ }
 {
-    let mut at = address;
+    let mut from = address;
     for _k in 0..length {
-        out.push(store.read(at))?;
-        at = at.wrapping_add(1);
+        out.push(store.read(from))?;
+        from = from.wrapping_add(1);
     }
     Ok(())
 }

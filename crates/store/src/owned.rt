@@ -29,6 +29,7 @@ pub impl Store for Owned as OwnedStore {
     }
 
     fn write(&mut self, address: u16, byte: u8) {
-        self.held[address as usize] = byte;
+        let at = address as usize;
+        self.held[at] = byte;
     }
 }

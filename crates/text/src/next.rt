@@ -1,7 +1,6 @@
 ghost use Prim.Native.Nat.{_≤_};
 ghost use mathlib.Core.Path.{_≡_};
 ghost use Rattle.text.specs.Next.{shown, line-of, rest-of, line-after, left};
-
 use crate::line::Line;
 use crate::lines::Lines;
 use crate::search::find;
@@ -10,7 +9,11 @@ impl<'a> Lines<'a> {
     pub fn new(text: &'a [u8]) -> Lines<'a>
         ensures { λ r. ⌜ r .text .now ≡ now (text .entry) ⌝ ∗ ⌜ r .at ≡ 0 ⌝ ∗ ⌜ r .line ≡ 1 ⌝ }
     {
-        Lines { text, at: 0, line: 1 }
+        Lines {
+            text,
+            at: 0,
+            line: 1,
+        }
     }
 
     pub fn next_line(&mut self) -> Line<'a>

@@ -22,7 +22,11 @@ pub fn cut(bytes: &[u8], byte: u8) -> Option<(&[u8], &[u8])>
     ensures { λ r. ⌜ pair r ≡ cut-at byte (now (bytes .entry)) ⌝ }
 {
     let p = find(bytes, byte);
-    if p < bytes.len() { Some((&bytes[0..p], &bytes[p + 1..])) } else { None }
+    if p < bytes.len() {
+        Some((&bytes[0..p], &bytes[p + 1..]))
+    } else {
+        None
+    }
 }
 
 pub fn same_text(a: &[u8], b: &[u8]) -> bool

@@ -4,7 +4,7 @@ use Prim.Native.Nat.{ℕ, _+_, _-_, _^_}
 use lib.Dec.{eqb, leb, ltb}
 use lib.IntN.{ℤ, pos, negsuc, _+ℤ_, _-ℤ_, _*ℤ_}
 use lib.Signed.{ltZ, quotZ}
-use mathlib.Core.Bool.{Bool, cond, _&&_, _||_}
+use mathlib.Core.Bool.{Bool, cond, not, _&&_, _||_}
 use mir.Syntax.{Width, w16, w32}
 use mir.Val.{toZ, ofZ, bits, hbits}
 use Rattle.std.specs.declared.option.Option.{Option}
@@ -37,6 +37,13 @@ difference w a b = outcome w (toZ w a -ℤ toZ w b) (ltb a b)
 abbrev pub product : Width → ℕ → ℕ → Bool → Outcome ℕ
 product w a b c = outcome w (toZ w a *ℤ toZ w b) c
 
--- rounded towards zero; none by 0, nor for -32,768 by -1
+-- by 0 there is no quotient, and that of -32,768 by -1 does not fit
+abbrev pub divides : ℕ → ℕ → Bool
+divides a b = not (eqb b 0 || (eqb a 32768 && eqb b 65535))
+
+-- the quotient rounded towards zero
+abbrev pub rounded : ℕ → ℕ → ℕ
+rounded a b = ofZ w16 (quotZ (toZ w16 a) (toZ w16 b))
+
 abbrev pub quotient : ℕ → ℕ → Option ℕ
-quotient a b = cond (eqb b 0 || (eqb a 32768 && eqb b 65535)) None (Some (ofZ w16 (quotZ (toZ w16 a) (toZ w16 b))))
+quotient a b = cond (divides a b) (Some (rounded a b)) None

@@ -1,6 +1,7 @@
 ghost use Prim.Native.Nat.{ℕ, _+_, _-_, _*_, _%_, _^_, _<_};
-ghost use Rattle.word.specs.Arithmetic.{told, cut, sum, difference, product, quotient};
+ghost use Rattle.word.specs.Arithmetic.{told, cut, sum, difference, product, quotient, rounded, divides};
 ghost use lib.IntN.{ℤ, pos, _+ℤ_, _-ℤ_, _*ℤ_};
+ghost use mathlib.Core.Bool.{true};
 ghost use mathlib.Core.Path.{_≡_};
 ghost use mir.Syntax.{w16, w32};
 ghost use mir.Val.{toZ, ofZ};
@@ -125,6 +126,14 @@ pub fn multiply32(a: u32, b: u32, carry: bool) -> Outcome<u32>
     outcome32(low_product32(a, b), exact_product32(a, b), carry)
 }
 
+fn truncated_quotient(a: u16, b: u16) -> u16
+    requires { ⌜ divides a b ≡ true ⌝ }
+    ensures { λ r. ⌜ r ≡ rounded a b ⌝ }
+{
+    let exact = a.cast_signed() / b.cast_signed();
+    exact.cast_unsigned()
+}
+
 // The quotient rounded towards zero; none by 0, nor where it does not fit.
 pub fn divide16(a: u16, b: u16) -> Option<u16>
     ensures { λ r. ⌜ r ≡ quotient a b ⌝ }
@@ -132,6 +141,5 @@ pub fn divide16(a: u16, b: u16) -> Option<u16>
     if b == 0 || a == 0x8000 && b == 0xffff {
         return None;
     }
-    let exact = a.cast_signed() / b.cast_signed();
-    Some(exact.cast_unsigned())
+    Some(truncated_quotient(a, b))
 }

@@ -6,11 +6,12 @@ use lib.ListN.{length}
 use Rattle.std.specs.declared.result.Result.the-variants.{Ok, Err}
 use Rattle.text.specs.Search.{Bytes}
 use Rattle.text.specs.Next.{left, rest-of}
+use Rattle.text.proofs.Following.{shorter}
 use Rattle.book.specs.declared.tables.Tables.{Tables}
 use Rattle.book.specs.Columns.{Three}
 use Rattle.book.specs.Faults.{fault-number}
 use Rattle.book.specs.Read.{Read}
-use Rattle.book.proofs.Gather.{stops, ends, malformed, goes-on, turns-away, shorter}
+use Rattle.book.proofs.Gather.{stops, ends, malformed, goes-on, turns-away}
 use Rattle.book.proofs.read.read_text.Needs as need
 
 pub returns-in-Unended : need.returns-in-Unended

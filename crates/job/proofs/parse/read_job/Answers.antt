@@ -2,7 +2,7 @@ use Prim.Native.Nat.{_<_}
 use lib.ListN.{length}
 use mathlib.Core.Path.{_≡_, ap}
 use native.Mathlib.Omega.{arith}
-use Rattle.book.proofs.Gather.{shorter}
+use Rattle.text.proofs.Following.{shorter}
 use Rattle.text.specs.Next.{left, rest-of}
 use Rattle.text.specs.Search.{Bytes}
 use Rattle.job.proofs.parse.read_job.Needs as need

@@ -14,7 +14,7 @@ loop-k-again g c =
     let i = rw d at (c .loop-k .inv) in
     let v = c .read .ensures in
     let e = c .in-Continue-push .ensures tt .items in
-    let a = append-assoc (vec-items (c .loop-k .out)) (c .read .result ∷ []) (taken bs ((c .loop-k .at + 1) % 65536) n) in
+    let a = append-assoc (vec-items (c .loop-k .out)) (c .read .result ∷ []) (taken bs ((c .loop-k .from + 1) % 65536) n) in
     cc
 
 pub returns : need.returns

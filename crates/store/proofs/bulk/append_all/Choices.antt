@@ -6,4 +6,4 @@ use Rattle.store.specs.Bulk.{taken}
 use Rattle.store.proofs.bulk.append_all.Given as given
 
 abbrev pub Inv-loop-k : given.InvT-loop-k
-Inv-loop-k g l = vec-items (l .out) ++ taken (g .S·Store .bytes (l .store)) (l .at) (l .length - l .-k) ≡ vec-items (l .entry .out) ++ taken (g .S·Store .bytes (l .store)) (l .address) (l .length)
+Inv-loop-k g l = vec-items (l .out) ++ taken (g .S·Store .bytes (l .store)) (l .from) (l .length - l .-k) ≡ vec-items (l .entry .out) ++ taken (g .S·Store .bytes (l .store)) (l .address) (l .length)

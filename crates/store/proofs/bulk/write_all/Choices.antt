@@ -4,4 +4,4 @@ use Rattle.store.specs.Bulk.{written}
 use Rattle.store.proofs.bulk.write_all.Given as given
 
 abbrev pub Inv-loop-byte : given.InvT-loop-byte
-Inv-loop-byte g l = written (g .S·Store .bytes (l .store)) (l .at) (drop (l .byte-index) (l .bytes)) ≡ written (g .S·Store .bytes (l .entry .store)) (l .entry .at) (l .bytes)
+Inv-loop-byte g l = written (g .S·Store .bytes (l .store)) (l .to) (drop (l .byte-index) (l .bytes)) ≡ written (g .S·Store .bytes (l .entry .store)) (l .address) (l .bytes)

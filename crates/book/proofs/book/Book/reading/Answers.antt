@@ -1,10 +1,8 @@
-use native.Mathlib.Omega.{arith}
-use mathlib.Core.Path.{sym, _∙_}
-use lib.Dec.{ltb}
-use Rattle.std.proofs.shelf.Tests.{cond-true, cond-false, lt-ltb, le-ltb}
+use Rattle.book.proofs.Trips.{laid, only, backs}
 use Rattle.book.proofs.book.Book.reading.Needs as need
 
-pub returns-in-4096-to-16383 : need.returns-in-4096-to-16383
-returns-in-4096-to-16383 c =
-    let w = c .args .word in
-    c .read-l .ensures ∙ sym (cond-false (ltb w 1024) _ _ (le-ltb w 1024 (omega arith)) ∙ cond-false (ltb w 4096) _ _ (le-ltb w 4096 (omega arith)) ∙ cond-true (ltb w 16384) _ _ (lt-ltb w 16384 (omega arith)))
+pub returns : need.returns
+returns c =
+    let b = c .args .self .now in
+    let e = c .read-word .ensures in
+    record { is = e; laid = laid (b .tables) (b .sound) (c .args .word) (c .read-word .result) e; sole = only (b .tables) (b .sound) (c .args .word) (c .read-word .result) e; again = backs (b .tables) (b .sound) (c .args .word) (c .read-word .result) e }

@@ -1,7 +1,7 @@
 use native.Mathlib.Omega.{arith}
 use Rattle.std.proofs.shelf.Signed.{ints, toZ-ofZ}
 use Rattle.std.proofs.shelf.Ways.{tells}
-use Rattle.word.proofs.arithmetic.divide16.Needs as need
+use Rattle.word.proofs.arithmetic.truncated_quotient.Needs as need
 
 pub div-exact : need.div-exact
 div-exact c = grind (arith, ints, tells)

@@ -2,7 +2,7 @@ use Prim.Native.Nat.{_-_}
 use mathlib.Core.Path.{_≡_}
 use Rattle.book.specs.Readings.{reading}
 use Rattle.machine.specs.Turn.{run}
-use Rattle.machine.proofs.turning.turn.Given as given
+use Rattle.machine.proofs.turning.run_steps.Given as given
 
 -- what is left to do from here is all of it from the start
 abbrev pub Inv-loop-steps : given.InvT-loop-steps
