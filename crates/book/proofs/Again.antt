@@ -1,31 +1,27 @@
-use Prim.Native.Nat.{ℕ, zero, suc, _+_, _-_, _*_, _/_, _%_, _<_, _≤_}
+use Prim.Native.Nat.{ℕ, zero, suc, _+_, _-_, _*_, _<_, _≤_}
 use native.Mathlib.Omega.{arith}
-use mathlib.Core.Path.{_≡_, refl, sym, _∙_, ap, subst}
-use mathlib.Core.Bool.{Bool, true, false, cond, not, _&&_, _||_}
+use mathlib.Core.Path.{_≡_, refl, sym, _∙_, ap}
+use mathlib.Core.Bool.{Bool, true, false, cond, not}
 use mathlib.Core.List.{List, [], _∷_}
-use mathlib.Core.Logic.{_⊎_, inl, inr, ⊎-elim}
+use mathlib.Core.Logic.{⊎-elim}
 use lib.Dec.{eqb, leb, ltb}
-use lib.IntN.{ℤ, pos, negsuc}
+use lib.IntN.{ℤ, pos}
 use lib.ListN.{getD}
 use Rattle.std.specs.declared.option.Option.{Option}
 use Rattle.std.specs.declared.option.Option.the-variants.{Some, None}
-use Rattle.std.specs.declared.result.Result.{Result}
-use Rattle.std.specs.declared.result.Result.the-variants.{Ok, Err}
+use Rattle.std.specs.declared.result.Result.the-variants.{Ok}
 use Rattle.code.specs.declared.name.Name.{Name}
-use Rattle.code.specs.declared.name.Name.the-variants.{Mbs, Cpbs, Trbs, Scbs, Mhs, Rk, Hrk, Sfn, Sim, Sfm, Bitl}
 use Rattle.code.specs.declared.format.Format.{Format}
 use Rattle.code.specs.declared.format.Format.the-variants.{A1, A2, A3, A4, A5, L, B}
-use Rattle.code.specs.declared.reading.Reading.{Reading}
-use Rattle.code.specs.declared.reading.Reading.the-variants.{Undefined, NoPattern, Defined}
 use Rattle.code.specs.Names.{rank}
 use Rattle.book.specs.declared.tables.Tables.{Tables}
 use Rattle.std.proofs.shelf.Tests.{eq-eqb, ne-eqb, eqb-false, or-parts, and-parts, not-true, cond-true, cond-false, lt-ltb, le-ltb, cases-lt, leb-true}
 use Rattle.word.specs.Fields.{as-signed, unsigned-in, signed-in}
 use Rattle.book.specs.Rows.{is-name, has-name}
 use Rattle.book.specs.Sound.{between, reserved, legal-l, apart}
-use Rattle.book.specs.Wholes.{word-of, branches, l-d}
-use Rattle.book.specs.Put.{number-in, put}
-use Rattle.book.specs.Layout.{LaysA, LaysB, LaysL, LaysBitl, LaysWhole, Lays}
+use Rattle.book.specs.Wholes.{word-of, branches}
+use Rattle.book.specs.Put.{number-in, made-of}
+use Rattle.book.specs.Layout.{LaysL, LaysBitl, LaysWhole, Lays}
 use Rattle.book.proofs.Facts.{Facts}
 use Rattle.book.proofs.Entering.{legal-at}
 
@@ -86,7 +82,7 @@ l-plain t g k n e =
     let r = and-parts (not (reserved k)) (between 31 43 (rank n)) (and-parts (between 16 63 k) _ h .1) .1 in
     plain n (leb-true (rank n) 43 (and-parts (leb 31 (rank n)) (leb (rank n) 43) r .1))
 
-again-a1 : (t : Tables) → Facts t → (w : ℕ) (n : Name) (m : ℕ) (d : ℤ) → Lays t w n A1 m d → put t n A1 (pos m) d ≡ Ok w
+again-a1 : (t : Tables) → Facts t → (w : ℕ) (n : Name) (m : ℕ) (d : ℤ) → Lays t w n A1 m d → made-of t n A1 (pos m) d ≡ Ok w
 again-a1 t g w n m d l =
     let f = numbered (t .a) (g .a-apart) (l .k) n (l .name) in
     let p = l .pattern in
@@ -95,7 +91,7 @@ again-a1 t g w n m d l =
     let b = lt-ltb (l .x) 256 (l .d-fits) in
     simp (f, p, y, a, b) (ap Ok (omega arith))
 
-again-a2 : (t : Tables) → Facts t → (w : ℕ) (n : Name) (m : ℕ) (d : ℤ) → Lays t w n A2 m d → put t n A2 (pos m) d ≡ Ok w
+again-a2 : (t : Tables) → Facts t → (w : ℕ) (n : Name) (m : ℕ) (d : ℤ) → Lays t w n A2 m d → made-of t n A2 (pos m) d ≡ Ok w
 again-a2 t g w n m d l =
     let f = numbered (t .a) (g .a-apart) (l .k) n (l .name) in
     let p = l .pattern in
@@ -104,7 +100,7 @@ again-a2 t g w n m d l =
     let b = lt-ltb (l .x) 128 (l .d-fits) in
     simp (f, p, y, a, b) (ap Ok (omega arith))
 
-again-a3 : (t : Tables) → Facts t → (w : ℕ) (n : Name) (m : ℕ) (d : ℤ) → Lays t w n A3 m d → put t n A3 (pos m) d ≡ Ok w
+again-a3 : (t : Tables) → Facts t → (w : ℕ) (n : Name) (m : ℕ) (d : ℤ) → Lays t w n A3 m d → made-of t n A3 (pos m) d ≡ Ok w
 again-a3 t g w n m d l =
     let f = numbered (t .a) (g .a-apart) (l .k) n (l .name) in
     let p = l .pattern in
@@ -113,7 +109,7 @@ again-a3 t g w n m d l =
     let b = lt-ltb (l .x) 64 (l .d-fits) in
     simp (f, p, y, a, b) (ap Ok (omega arith))
 
-again-a4 : (t : Tables) → Facts t → (w : ℕ) (n : Name) (m : ℕ) (d : ℤ) → Lays t w n A4 m d → put t n A4 (pos m) d ≡ Ok w
+again-a4 : (t : Tables) → Facts t → (w : ℕ) (n : Name) (m : ℕ) (d : ℤ) → Lays t w n A4 m d → made-of t n A4 (pos m) d ≡ Ok w
 again-a4 t g w n m d l =
     let f = numbered (t .a) (g .a-apart) (l .k) n (l .name) in
     let p = l .pattern in
@@ -122,7 +118,7 @@ again-a4 t g w n m d l =
     let b = lt-ltb (l .x) 32 (l .d-fits) in
     simp (f, p, y, a, b) (ap Ok (omega arith))
 
-again-a5 : (t : Tables) → Facts t → (w : ℕ) (n : Name) (m : ℕ) (d : ℤ) → Lays t w n A5 m d → put t n A5 (pos m) d ≡ Ok w
+again-a5 : (t : Tables) → Facts t → (w : ℕ) (n : Name) (m : ℕ) (d : ℤ) → Lays t w n A5 m d → made-of t n A5 (pos m) d ≡ Ok w
 again-a5 t g w n m d l =
     let f = numbered (t .a) (g .a-apart) (l .k) n (l .name) in
     let p = l .pattern in
@@ -131,7 +127,7 @@ again-a5 t g w n m d l =
     let b = lt-ltb (l .x) 16 (l .d-fits) in
     simp (f, p, y, a, b) (ap Ok (omega arith))
 
-again-b : (t : Tables) → Facts t → (w : ℕ) (n : Name) (m : ℕ) (d : ℤ) → Lays t w n B m d → put t n B (pos m) d ≡ Ok w
+again-b : (t : Tables) → Facts t → (w : ℕ) (n : Name) (m : ℕ) (d : ℤ) → Lays t w n B m d → made-of t n B (pos m) d ≡ Ok w
 again-b t g w n m d l =
     let f = numbered (t .b) (g .b-apart) (l .k) n (l .name) in
     let y = l .d-is in
@@ -139,7 +135,7 @@ again-b t g w n m d l =
     let b = signed-back 512 (l .x) (l .d-fits) in
     simp (f, y, a, b) (ap Ok (sym (l .word)))
 
-again-l : (t : Tables) → Facts t → (w : ℕ) (n : Name) (m : ℕ) (d : ℤ) → LaysL t w n m d → put t n L (pos m) d ≡ Ok w
+again-l : (t : Tables) → Facts t → (w : ℕ) (n : Name) (m : ℕ) (d : ℤ) → LaysL t w n m d → made-of t n L (pos m) d ≡ Ok w
 again-l t g w n m d l =
     let f = numbered (t .l) (g .l-apart) (l .k) n (l .name) in
     let p = l-plain t g (l .k) n (l .name) .0 in
@@ -149,7 +145,7 @@ again-l t g w n m d l =
     let b = l-back (branches n) (l .x) (l .d-fits) in
     simp (p, q, f, y, a, b) (ap Ok (sym (l .word)))
 
-again-bitl : (t : Tables) (w : ℕ) (n : Name) (m : ℕ) (d : ℤ) → LaysBitl w n m d → put t n L (pos m) d ≡ Ok w
+again-bitl : (t : Tables) (w : ℕ) (n : Name) (m : ℕ) (d : ℤ) → LaysBitl w n m d → made-of t n L (pos m) d ≡ Ok w
 again-bitl t w n m d l =
     let e = l .name in
     let y = l .d-is in
@@ -157,7 +153,7 @@ again-bitl t w n m d l =
     let b = lt-ltb (l .x) 256 (l .d-fits) in
     simp (e, y, a, b) (ap Ok (sym (l .word)))
 
-again-whole : (t : Tables) (w : ℕ) (n : Name) (m : ℕ) (d : ℤ) → LaysWhole w n m d → put t n L (pos m) d ≡ Ok w
+again-whole : (t : Tables) (w : ℕ) (n : Name) (m : ℕ) (d : ℤ) → LaysWhole w n m d → made-of t n L (pos m) d ≡ Ok w
 again-whole t w n m d l =
     let e = l .word in
     let y = l .d-is in
@@ -165,7 +161,7 @@ again-whole t w n m d l =
     simp (e, y, a) (ap Ok (omega arith))
 
 -- what a layout holds, put together, gives its word
-pub again : (t : Tables) → Facts t → (w : ℕ) (n : Name) (f : Format) (m : ℕ) (d : ℤ) → Lays t w n f m d → put t n f (pos m) d ≡ Ok w
+pub again : (t : Tables) → Facts t → (w : ℕ) (n : Name) (f : Format) (m : ℕ) (d : ℤ) → Lays t w n f m d → made-of t n f (pos m) d ≡ Ok w
 again t g w n A1 m d l = again-a1 t g w n m d l
 again t g w n A2 m d l = again-a2 t g w n m d l
 again t g w n A3 m d l = again-a3 t g w n m d l

@@ -1,23 +1,24 @@
-use Prim.Native.Nat.{ℕ, zero, suc, _+_, _-_, _*_, _^_, _<_}
+use Prim.Native.Nat.{ℕ, zero, suc, _+_, _*_, _^_, _<_}
 use native.Mathlib.Omega.{arith}
 use mathlib.Core.Path.{_≡_, refl, sym, _∙_, ap, subst}
-use mathlib.Core.Bool.{Bool, true, false, cond, not, _&&_, _||_}
+use mathlib.Core.Bool.{Bool, true, false, not, _&&_, _||_}
 use mathlib.Core.List.{List, [], _∷_}
 use mathlib.Core.Logic.{⊎-elim}
-use lib.Dec.{eqb, leb, ltb}
+use lib.Dec.{eqb}
 use lib.ListN.{length, getD, set}
 use Rattle.std.specs.Options.{isSome}
 use Rattle.std.specs.shelf.Text.{sameBytes}
 use Rattle.std.specs.declared.option.Option.{Option}
 use Rattle.std.specs.declared.option.Option.the-variants.{Some, None}
 use Rattle.std.proofs.shelf.Bits.{pow-add}
-use Rattle.std.proofs.shelf.Tests.{and-parts, and-from, or-parts, or-from, ne-eqb, eqb-false, eqb-true, eq-eqb, lt-ltb, cond-both, cases-bool, cond-true, cond-false, not-true, true≢false}
+use Rattle.std.proofs.shelf.Tests.{and-parts, and-from, or-parts, or-from, ne-eqb, eqb-false, eqb-true, lt-ltb, cond-both, cases-bool, cond-true, cond-false, not-true, true≢false}
 use Rattle.code.specs.declared.name.Name.{Name}
-use Rattle.code.specs.Names.{rank, named, spelled}
+use Rattle.code.specs.Spelling.{first}
+use Rattle.code.specs.Names.{rank, spelled}
 use Rattle.text.specs.Search.{Bytes}
 use Rattle.book.specs.Rows.{is-name, has-name}
 use Rattle.book.specs.Patterns.{length-at, bits, pattern-of, begins, meets, clashes}
-use Rattle.book.specs.Sound.{between, entry, entries, alone, apart, legal-pattern, free, parted}
+use Rattle.book.specs.Sound.{entry, entries, apart, legal-pattern, parted}
 
 pub nothing : {X : Type 0} (o : Option X) → isSome o ≡ false → o ≡ None
 nothing None h = refl
@@ -111,12 +112,12 @@ abbrev pub every-name : (Name → Bool) → List Name → Bool
 every-name P [] = true
 every-name P (n ∷ ns) = P n && every-name P ns
 
-pub named-every : (P : Name → Bool) (ns : List Name) (s : Bytes) (n : Name) → every-name P ns ≡ true → named ns s ≡ Some n → P n ≡ true
+pub named-every : (P : Name → Bool) (ns : List Name) (s : Bytes) (n : Name) → every-name P ns ≡ true → first spelled ns s ≡ Some n → P n ≡ true
 named-every P [] s n a e = let z : _≡_ {A = ℕ} 0 1 = cc in absurd (omega arith)
 named-every P (m ∷ ns) s n a e =
     ⊎-elim
-    (λ t. let i : Some m ≡ Some n = sym (cond-true (sameBytes (spelled m) s) (Some m) (named ns s) t) ∙ e in let q : m ≡ n = cc in subst (λ x. P x ≡ true) q (and-parts (P m) (every-name P ns) a .0))
-    (λ t. named-every P ns s n (and-parts (P m) (every-name P ns) a .1) (sym (cond-false (sameBytes (spelled m) s) (Some m) (named ns s) t) ∙ e))
+    (λ t. let i : Some m ≡ Some n = sym (cond-true (sameBytes (spelled m) s) (Some m) (first spelled ns s) t) ∙ e in let q : m ≡ n = cc in subst (λ x. P x ≡ true) q (and-parts (P m) (every-name P ns) a .0))
+    (λ t. named-every P ns s n (and-parts (P m) (every-name P ns) a .1) (sym (cond-false (sameBytes (spelled m) s) (Some m) (first spelled ns s) t) ∙ e))
     (cases-bool (sameBytes (spelled m) s))
 
 bits-bound : (i n : ℕ) (ds : Bytes) (v : ℕ) → n < 2 ^ i → bits n ds ≡ Some v → v < 2 ^ (i + length ds)

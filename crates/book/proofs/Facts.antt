@@ -1,5 +1,5 @@
 use mathlib.Core.Path.{_≡_}
-use mathlib.Core.Bool.{Bool, true, false, _&&_}
+use mathlib.Core.Bool.{true, _&&_}
 use Rattle.std.proofs.shelf.Tests.{and-parts, and-from}
 use Rattle.book.specs.declared.tables.Tables.{Tables}
 use Rattle.book.specs.Sound.{legal-a, legal-l, legal-b, legal-pattern, entries, apart, parted, sound}

@@ -1,28 +1,24 @@
-use Prim.Native.Nat.{ℕ, zero, suc, _+_, _-_, _*_, _/_, _%_, _<_, _≤_}
+use Prim.Native.Nat.{ℕ, _/_, _%_}
 use native.Mathlib.Omega.{arith}
-use mathlib.Core.Path.{_≡_, refl, sym, _∙_, ap, subst}
-use mathlib.Core.Bool.{Bool, true, false, cond, not, _&&_, _||_}
-use mathlib.Core.List.{List, [], _∷_}
-use mathlib.Core.Logic.{_⊎_, inl, inr, ⊎-elim}
-use lib.Dec.{eqb, leb, ltb}
-use lib.IntN.{ℤ, pos, negsuc}
+use mathlib.Core.Path.{_≡_, refl, sym, _∙_, ap}
+use mathlib.Core.Bool.{true, cond}
+use mathlib.Core.Logic.{inl, inr, ⊎-elim}
+use lib.Dec.{eqb, ltb}
+use lib.IntN.{pos}
 use lib.ListN.{getD}
 use Rattle.std.specs.declared.option.Option.{Option}
 use Rattle.std.specs.declared.option.Option.the-variants.{Some, None}
-use Rattle.std.specs.declared.result.Result.{Result}
-use Rattle.std.specs.declared.result.Result.the-variants.{Ok, Err}
 use Rattle.code.specs.declared.name.Name.{Name}
 use Rattle.code.specs.declared.name.Name.the-variants.{Mbs, Cpbs, Trbs, Scbs, Mhs, Rk, Hrk, Sfn, Sim, Sfm, Bitl}
 use Rattle.code.specs.declared.format.Format.{Format}
-use Rattle.code.specs.declared.format.Format.the-variants.{A1, A2, A3, A4, A5, L, B}
+use Rattle.code.specs.declared.format.Format.the-variants.{A1, A2, A3, A4, A5, L}
 use Rattle.code.specs.declared.reading.Reading.{Reading}
 use Rattle.code.specs.declared.reading.Reading.the-variants.{Undefined, NoPattern, Defined}
-use Rattle.code.specs.Names.{rank}
 use Rattle.book.specs.declared.tables.Tables.{Tables}
 use Rattle.std.proofs.shelf.Tests.{eqb-true, cond-true, cond-false, cond-both, cases-bool, false≢true}
-use Rattle.book.specs.Wholes.{whole-of, word-of, l-d}
-use Rattle.book.specs.Readings.{in-b, by-l, by-whole, fits, pick, by-a, in-a, reading}
-use Rattle.book.specs.Layout.{LaysA, LaysB, LaysL, LaysBitl, LaysWhole, Lays}
+use Rattle.book.specs.Wholes.{whole-of, word-of}
+use Rattle.book.specs.Readings.{in-b, by-l, by-whole, fits, by-a, in-a, meaning}
+use Rattle.book.specs.Layout.{Lays}
 
 -- a defined reading is a layout
 abbrev pub Forth : Tables → ℕ → Reading → Type 0
@@ -58,7 +54,7 @@ forth-whole t w None e =
     (λ b. let q = eqb-true (w / 256) 22 b in inr (inl (record { x = w % 256; name = refl; m-is = refl; d-fits = omega arith; d-is = refl; word = omega arith })))
     (λ _. forth-l t w (getD (t .l) (w / 256) None) refl)
 
-fits-some : (p : Option ℕ) (x : ℕ) → fits p x ≡ true → p ≡ Some x
+pub fits-some : (p : Option ℕ) (x : ℕ) → fits p x ≡ true → p ≡ Some x
 fits-some None x h = absurd (false≢true h)
 fits-some (Some v) x h = ap Some (eqb-true v x h)
 
@@ -82,7 +78,7 @@ forth-a5 : (t : Tables) (w : ℕ) → fits (getD (t .patterns) 4 None) (w / 64 %
 forth-a5 t w h None e = tt
 forth-a5 t w h (Some n) e = record { k = w / 1024; v = w / 64 % 16; x = w % 16; name = e; pattern = fits-some _ _ h; m-fits = omega arith; d-fits = omega arith; d-is = refl; word = omega arith }
 
-pub forth : (t : Tables) (w : ℕ) → Forth t w (reading t w)
+pub forth : (t : Tables) (w : ℕ) → Forth t w (meaning t w)
 forth t w =
     let P : Reading → Type 0 = Forth t w in
     let Q : Option Format → Type 0 = λ o. Forth t w (in-a o t w) in

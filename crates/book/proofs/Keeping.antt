@@ -1,7 +1,7 @@
 use Prim.Native.Nat.{ℕ, _+_}
-use mathlib.Core.Path.{_≡_, refl, sym, _∙_, ap, subst}
-use mathlib.Core.Bool.{Bool, true, false, cond, not, _||_, _&&_}
-use mathlib.Core.List.{List, [], _∷_, _++_}
+use mathlib.Core.Path.{_≡_, refl, sym, ap, subst}
+use mathlib.Core.Bool.{true, not}
+use mathlib.Core.List.{[], _∷_, _++_}
 use lib.Dec.{eqb}
 use lib.ListN.{length, getD, set}
 use Rattle.std.specs.Options.{isSome}
@@ -106,4 +106,5 @@ keeps-gather (x ∷ xs) front n t g =
     (λ _. keeps-gather xs (front ++ (x ∷ [])) n t g)
 
 pub read-sound : (s : Bytes) (t : Tables) → Ok t ≡ read-rule s → sound t ≡ true
+unfolding read-rule
 read-sound s t e = subst (Keeps {E = ℕ × ℕ}) (sym e) (keeps-gather s [] 1 no-tables refl)

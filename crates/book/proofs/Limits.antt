@@ -1,14 +1,12 @@
 use Prim.Native.Nat.{ℕ, _<_}
 use native.Mathlib.Omega.{arith}
 use mathlib.Core.Path.{_≡_, sym}
-use mathlib.Core.Bool.{true}
-use lib.ListN.{getD}
-use Rattle.std.specs.declared.option.Option.the-variants.{Some, None}
+use Rattle.std.specs.declared.option.Option.the-variants.{Some}
 use Rattle.std.proofs.shelf.Tests.{ltb-true}
 use Rattle.code.specs.declared.format.Format.{Format}
 use Rattle.code.specs.declared.format.Format.the-variants.{A1, A2, A3, A4, A5, L, B}
 use Rattle.book.specs.declared.tables.Tables.{Tables}
-use Rattle.book.specs.Sound.{legal-pattern, sound}
+use Rattle.book.specs.Sound.{legal-pattern}
 use Rattle.book.specs.Put.{v-limit, pattern-at}
 use Rattle.book.proofs.Facts.{Facts}
 use Rattle.book.proofs.Entering.{legal-at}

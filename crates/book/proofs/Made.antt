@@ -1,32 +1,29 @@
-use Prim.Native.Nat.{ℕ, zero, suc, _+_, _-_, _*_, _/_, _%_, _<_, _≤_}
+use Prim.Native.Nat.{ℕ, suc, _+_, _-_, _*_, _<_}
 use native.Mathlib.Omega.{arith}
-use mathlib.Core.Path.{_≡_, refl, sym, _∙_, ap, subst}
-use mathlib.Core.Bool.{Bool, true, false, cond, not, _&&_, _||_}
+use mathlib.Core.Path.{_≡_, refl, _∙_, ap, subst}
+use mathlib.Core.Bool.{Bool, true, false, cond}
 use mathlib.Core.List.{List, [], _∷_}
-use mathlib.Core.Logic.{_⊎_, inl, inr, ⊎-elim}
-use lib.Dec.{eqb, leb, ltb}
+use mathlib.Core.Logic.{inl, inr}
+use lib.Dec.{eqb, ltb}
 use lib.IntN.{ℤ, pos, negsuc}
 use lib.ListN.{getD}
 use Rattle.std.specs.declared.option.Option.{Option}
 use Rattle.std.specs.declared.option.Option.the-variants.{Some, None}
 use Rattle.std.specs.declared.result.Result.{Result}
-use Rattle.std.specs.declared.result.Result.the-variants.{Ok, Err}
+use Rattle.std.specs.declared.result.Result.the-variants.{Ok}
 use Rattle.code.specs.declared.name.Name.{Name}
-use Rattle.code.specs.declared.name.Name.the-variants.{Mbs, Cpbs, Trbs, Scbs, Mhs, Rk, Hrk, Sfn, Sim, Sfm, Bitl}
+use Rattle.code.specs.declared.name.Name.the-variants.{Bitl}
 use Rattle.code.specs.declared.format.Format.{Format}
 use Rattle.code.specs.declared.format.Format.the-variants.{A1, A2, A3, A4, A5, L, B}
-use Rattle.code.specs.declared.reading.Reading.{Reading}
-use Rattle.code.specs.declared.reading.Reading.the-variants.{Undefined, NoPattern, Defined}
 use Rattle.code.specs.Names.{rank}
 use Rattle.book.specs.declared.tables.Tables.{Tables}
-use Rattle.std.proofs.shelf.Tests.{eqb-true, ltb-true, ltb-false, cond-both, le-ltb, lt-ltb, true≢false}
+use Rattle.std.proofs.shelf.Tests.{eqb-true, ltb-true, cond-both, le-ltb}
 use Rattle.code.proofs.Ranks.{rank-tells}
 use Rattle.word.specs.Fields.{as-signed, unsigned-in, signed-in}
-use Rattle.book.specs.Rows.{is-name}
-use Rattle.book.specs.Wholes.{word-of, branches, l-d}
+use Rattle.book.specs.Wholes.{word-of, branches}
 use Rattle.book.specs.Add.{need}
-use Rattle.book.specs.Put.{number-in, m-limit, d-limit, word-a, pattern-at, put-a, below, put-l, put}
-use Rattle.book.specs.Layout.{LaysA, LaysB, LaysL, LaysBitl, LaysWhole, Lays}
+use Rattle.book.specs.Put.{number-in, m-limit, d-limit, word-a, pattern-at, put-a, below, put-l, made-of}
+use Rattle.book.specs.Layout.{Lays}
 
 -- what was needed was there
 had : {X : Type 0} (o : Option X) (e : ℕ) (f : X → Result ℕ ℕ) (w : ℕ) → need o e f ≡ Ok w → (x : X) × ((o ≡ Some x) × (f x ≡ Ok w))
@@ -121,32 +118,32 @@ made-below w base m o h =
     let e = y .1 .1 in
     record { y = y .0; m-is = x' .0 ∙ ap pos z; d-is = y .1 .0; word = cc }
 
-made-a1 : (t : Tables) (w : ℕ) (n : Name) (m d : ℤ) → put t n A1 m d ≡ Ok w → Made t w n A1 m d
+made-a1 : (t : Tables) (w : ℕ) (n : Name) (m d : ℤ) → made-of t n A1 m d ≡ Ok w → Made t w n A1 m d
 made-a1 t w n m d h =
     let a = made-a t w n A1 m d h in
     record { x = a .x; m-is = a .m-is; lays = record { k = a .k; v = a .v; x = a .y; name = a .name; pattern = a .pattern; m-fits = a .m-fits; d-fits = a .d-fits; d-is = a .d-is; word = omega (arith, a .word, a .m-fits) } }
 
-made-a2 : (t : Tables) (w : ℕ) (n : Name) (m d : ℤ) → put t n A2 m d ≡ Ok w → Made t w n A2 m d
+made-a2 : (t : Tables) (w : ℕ) (n : Name) (m d : ℤ) → made-of t n A2 m d ≡ Ok w → Made t w n A2 m d
 made-a2 t w n m d h =
     let a = made-a t w n A2 m d h in
     record { x = a .x; m-is = a .m-is; lays = record { k = a .k; v = a .v; x = a .y; name = a .name; pattern = a .pattern; m-fits = a .m-fits; d-fits = a .d-fits; d-is = a .d-is; word = omega (arith, a .word, a .m-fits) } }
 
-made-a3 : (t : Tables) (w : ℕ) (n : Name) (m d : ℤ) → put t n A3 m d ≡ Ok w → Made t w n A3 m d
+made-a3 : (t : Tables) (w : ℕ) (n : Name) (m d : ℤ) → made-of t n A3 m d ≡ Ok w → Made t w n A3 m d
 made-a3 t w n m d h =
     let a = made-a t w n A3 m d h in
     record { x = a .x; m-is = a .m-is; lays = record { k = a .k; v = a .v; x = a .y; name = a .name; pattern = a .pattern; m-fits = a .m-fits; d-fits = a .d-fits; d-is = a .d-is; word = omega (arith, a .word, a .m-fits) } }
 
-made-a4 : (t : Tables) (w : ℕ) (n : Name) (m d : ℤ) → put t n A4 m d ≡ Ok w → Made t w n A4 m d
+made-a4 : (t : Tables) (w : ℕ) (n : Name) (m d : ℤ) → made-of t n A4 m d ≡ Ok w → Made t w n A4 m d
 made-a4 t w n m d h =
     let a = made-a t w n A4 m d h in
     record { x = a .x; m-is = a .m-is; lays = record { k = a .k; v = a .v; x = a .y; name = a .name; pattern = a .pattern; m-fits = a .m-fits; d-fits = a .d-fits; d-is = a .d-is; word = omega (arith, a .word, a .m-fits) } }
 
-made-a5 : (t : Tables) (w : ℕ) (n : Name) (m d : ℤ) → put t n A5 m d ≡ Ok w → Made t w n A5 m d
+made-a5 : (t : Tables) (w : ℕ) (n : Name) (m d : ℤ) → made-of t n A5 m d ≡ Ok w → Made t w n A5 m d
 made-a5 t w n m d h =
     let a = made-a t w n A5 m d h in
     record { x = a .x; m-is = a .m-is; lays = record { k = a .k; v = a .v; x = a .y; name = a .name; pattern = a .pattern; m-fits = a .m-fits; d-fits = a .d-fits; d-is = a .d-is; word = omega (arith, a .word, a .m-fits) } }
 
-made-b : (t : Tables) (w : ℕ) (n : Name) (m d : ℤ) → put t n B m d ≡ Ok w → Made t w n B m d
+made-b : (t : Tables) (w : ℕ) (n : Name) (m d : ℤ) → made-of t n B m d ≡ Ok w → Made t w n B m d
 made-b t w n m d h =
     let k = had (number-in n 0 (t .b)) 21 _ w h in
     let a = made-below w (k .0 * 1024) m (signed-in 512 d) (k .1 .1) in
@@ -178,7 +175,7 @@ made-l t w n m d None e h =
     h
 
 -- a word that was put together has the layout of what it was made from
-pub made : (t : Tables) (w : ℕ) (n : Name) (f : Format) (m d : ℤ) → put t n f m d ≡ Ok w → Made t w n f m d
+pub made : (t : Tables) (w : ℕ) (n : Name) (f : Format) (m d : ℤ) → made-of t n f m d ≡ Ok w → Made t w n f m d
 made t w n A1 m d h = made-a1 t w n m d h
 made t w n A2 m d h = made-a2 t w n m d h
 made t w n A3 m d h = made-a3 t w n m d h

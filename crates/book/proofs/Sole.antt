@@ -1,34 +1,31 @@
-use Prim.Native.Nat.{ℕ, zero, suc, _+_, _-_, _*_, _/_, _%_, _<_, _≤_}
+use Prim.Native.Nat.{ℕ, zero, suc, _+_, _/_, _%_, _<_, _≤_}
 use native.Mathlib.Omega.{arith}
 use mathlib.Core.Path.{_≡_, refl, sym, _∙_, ap, subst}
-use mathlib.Core.Bool.{Bool, true, false, cond, not, _&&_, _||_}
+use mathlib.Core.Bool.{true, false, cond, not}
 use mathlib.Core.List.{List, [], _∷_}
-use mathlib.Core.Logic.{_⊎_, inl, inr, ⊎-elim}
-use lib.Dec.{eqb, leb, ltb}
-use lib.IntN.{ℤ, pos, negsuc}
+use mathlib.Core.Logic.{⊎-elim}
+use lib.Dec.{eqb, leb}
+use lib.IntN.{ℤ, pos}
 use lib.ListN.{getD}
 use Rattle.std.specs.declared.option.Option.{Option}
 use Rattle.std.specs.declared.option.Option.the-variants.{Some, None}
-use Rattle.std.specs.declared.result.Result.{Result}
-use Rattle.std.specs.declared.result.Result.the-variants.{Ok, Err}
 use Rattle.code.specs.declared.name.Name.{Name}
-use Rattle.code.specs.declared.name.Name.the-variants.{Mbs, Cpbs, Trbs, Scbs, Mhs, Rk, Hrk, Sfn, Sim, Sfm, Bitl}
+use Rattle.code.specs.declared.name.Name.the-variants.{Mbs, Cpbs, Trbs, Scbs, Mhs, Rk, Hrk, Sfn, Sim, Sfm}
 use Rattle.code.specs.declared.format.Format.{Format}
 use Rattle.code.specs.declared.format.Format.the-variants.{A1, A2, A3, A4, A5, L, B}
-use Rattle.code.specs.declared.reading.Reading.{Reading}
-use Rattle.code.specs.declared.reading.Reading.the-variants.{Undefined, NoPattern, Defined}
+use Rattle.code.specs.declared.reading.Reading.the-variants.{Defined}
 use Rattle.code.specs.Names.{rank}
 use Rattle.book.specs.declared.tables.Tables.{Tables}
-use Rattle.std.proofs.shelf.Tests.{eq-eqb, ne-eqb, eqb-true, eqb-false, or-parts, and-parts, not-true, both-ways, cond-true, cond-false, lt-ltb, le-ltb, ltb-true, leb-true, cases-bool, false≢true}
+use Rattle.std.proofs.shelf.Tests.{eq-eqb, ne-eqb, eqb-true, eqb-false, or-parts, and-parts, not-true, both-ways, cond-true, cond-false, lt-ltb, le-ltb, ltb-true, leb-true, cases-bool}
 use Rattle.code.proofs.Ranks.{rank-tells}
-use Rattle.word.specs.Fields.{as-signed}
 use Rattle.book.specs.Patterns.{meets, clashes}
 use Rattle.book.specs.Sound.{between, reserved, legal-a, legal-l, legal-b, legal-pattern, free, parted}
-use Rattle.book.specs.Wholes.{whole-of, word-of, l-d}
-use Rattle.book.specs.Readings.{fits, pick, reading}
-use Rattle.book.specs.Layout.{LaysA, LaysB, LaysL, LaysBitl, LaysWhole, Lays}
+use Rattle.book.specs.Wholes.{whole-of, word-of}
+use Rattle.book.specs.Readings.{fits, meaning}
+use Rattle.book.specs.Layout.{LaysL, LaysBitl, LaysWhole, Lays}
 use Rattle.book.proofs.Facts.{Facts}
 use Rattle.book.proofs.Entering.{legal-at}
+use Rattle.book.proofs.Forth.{fits-some}
 
 range : (low high k : ℕ) → between low high k ≡ true → (low ≤ k) × (k ≤ high)
 range low high k h = let p = and-parts (leb low k) (leb k high) h in (leb-true low k (p .0), leb-true k high (p .1))
@@ -56,10 +53,6 @@ pair i (p ∷ ps) (suc j) (suc k) u v h l a b =
     let r : i + 1 + k ≡ i + suc k = omega arith in
     subst (λ x. meets x u (i + suc k) (Some v) ≡ false) q (subst (λ y. meets (i + 1 + j) u y (Some v) ≡ false) r (pair (i + 1) ps j k u v (and-parts (free i p ps) (parted (i + 1) ps) h .1) (omega arith) a b))
 
-fits-some : (p : Option ℕ) (x : ℕ) → fits p x ≡ true → p ≡ Some x
-fits-some None x h = absurd (false≢true h)
-fits-some (Some v) x h = ap Some (eqb-true v x h)
-
 -- so a pattern that would meet one that stands later is not there
 misses : (t : Tables) → Facts t → (j k u v : ℕ) → j < k → getD (t .patterns) k None ≡ Some v → meets j u k (Some v) ≡ true → fits (getD (t .patterns) j None) u ≡ false
 misses t g j k u v l e m =
@@ -72,7 +65,7 @@ misses t g j k u v l e m =
     (λ h. h)
     (cases-bool (fits (getD (t .patterns) j None) u))
 
-sole-a1 : (t : Tables) → Facts t → (w : ℕ) (n : Name) (m : ℕ) (d : ℤ) → Lays t w n A1 m d → reading t w ≡ Defined n A1 m d
+sole-a1 : (t : Tables) → Facts t → (w : ℕ) (n : Name) (m : ℕ) (d : ℤ) → Lays t w n A1 m d → meaning t w ≡ Defined n A1 m d
 sole-a1 t g w n m d l =
     let k : ℕ = l .k in
     let v : ℕ = l .v in
@@ -89,7 +82,7 @@ sole-a1 t g w n m d l =
     let d-is = l .d-is in
     simp (a1, a2, a3, own, q, name, m-is, d-at, d-is)
 
-sole-a2 : (t : Tables) → Facts t → (w : ℕ) (n : Name) (m : ℕ) (d : ℤ) → Lays t w n A2 m d → reading t w ≡ Defined n A2 m d
+sole-a2 : (t : Tables) → Facts t → (w : ℕ) (n : Name) (m : ℕ) (d : ℤ) → Lays t w n A2 m d → meaning t w ≡ Defined n A2 m d
 sole-a2 t g w n m d l =
     let k : ℕ = l .k in
     let v : ℕ = l .v in
@@ -108,7 +101,7 @@ sole-a2 t g w n m d l =
     let d-is = l .d-is in
     simp (a1, a2, a3, n0, own, q, name, m-is, d-at, d-is)
 
-sole-a3 : (t : Tables) → Facts t → (w : ℕ) (n : Name) (m : ℕ) (d : ℤ) → Lays t w n A3 m d → reading t w ≡ Defined n A3 m d
+sole-a3 : (t : Tables) → Facts t → (w : ℕ) (n : Name) (m : ℕ) (d : ℤ) → Lays t w n A3 m d → meaning t w ≡ Defined n A3 m d
 sole-a3 t g w n m d l =
     let k : ℕ = l .k in
     let v : ℕ = l .v in
@@ -129,7 +122,7 @@ sole-a3 t g w n m d l =
     let d-is = l .d-is in
     simp (a1, a2, a3, n0, n1, own, q, name, m-is, d-at, d-is)
 
-sole-a4 : (t : Tables) → Facts t → (w : ℕ) (n : Name) (m : ℕ) (d : ℤ) → Lays t w n A4 m d → reading t w ≡ Defined n A4 m d
+sole-a4 : (t : Tables) → Facts t → (w : ℕ) (n : Name) (m : ℕ) (d : ℤ) → Lays t w n A4 m d → meaning t w ≡ Defined n A4 m d
 sole-a4 t g w n m d l =
     let k : ℕ = l .k in
     let v : ℕ = l .v in
@@ -152,7 +145,7 @@ sole-a4 t g w n m d l =
     let d-is = l .d-is in
     simp (a1, a2, a3, n0, n1, n2, own, q, name, m-is, d-at, d-is)
 
-sole-a5 : (t : Tables) → Facts t → (w : ℕ) (n : Name) (m : ℕ) (d : ℤ) → Lays t w n A5 m d → reading t w ≡ Defined n A5 m d
+sole-a5 : (t : Tables) → Facts t → (w : ℕ) (n : Name) (m : ℕ) (d : ℤ) → Lays t w n A5 m d → meaning t w ≡ Defined n A5 m d
 sole-a5 t g w n m d l =
     let k : ℕ = l .k in
     let v : ℕ = l .v in
@@ -177,7 +170,7 @@ sole-a5 t g w n m d l =
     let d-is = l .d-is in
     simp (a1, a2, a3, n0, n1, n2, n3, own, q, name, m-is, d-at, d-is)
 
-sole-b : (t : Tables) → Facts t → (w : ℕ) (n : Name) (m : ℕ) (d : ℤ) → Lays t w n B m d → reading t w ≡ Defined n B m d
+sole-b : (t : Tables) → Facts t → (w : ℕ) (n : Name) (m : ℕ) (d : ℤ) → Lays t w n B m d → meaning t w ≡ Defined n B m d
 sole-b t g w n m d l =
     let b = range 1 3 (l .k) (and-parts (between 1 3 (l .k)) _ (legal-at legal-b (t .b) (l .k) n (g .b-legal) (l .name)) .0) in
     let a1 = le-ltb w 1024 (omega arith) in
@@ -204,7 +197,7 @@ no-whole w h18 h23 h39 h55 =
     let e9 = ne-eqb w 0x1701 (λ r. h23 (omega arith)) in
     simp (e0, e1, e2, e3, e4, e5, e6, e7, e8, e9)
 
-sole-l : (t : Tables) → Facts t → (w : ℕ) (n : Name) (m : ℕ) (d : ℤ) → LaysL t w n m d → reading t w ≡ Defined n L m d
+sole-l : (t : Tables) → Facts t → (w : ℕ) (n : Name) (m : ℕ) (d : ℤ) → LaysL t w n m d → meaning t w ≡ Defined n L m d
 sole-l t g w n m d l =
     let legal = legal-at legal-l (t .l) (l .k) n (g .l-legal) (l .name) in
     let b = range 16 63 (l .k) (and-parts (between 16 63 (l .k)) _ legal .0) in
@@ -225,7 +218,7 @@ sole-l t g w n m d l =
     let d-is = l .d-is in
     simp (a1, a2, a3, none, q, no-bitl, r, name, m-is, d-is)
 
-sole-bitl : (t : Tables) (w : ℕ) (n : Name) (m : ℕ) (d : ℤ) → LaysBitl w n m d → reading t w ≡ Defined n L m d
+sole-bitl : (t : Tables) (w : ℕ) (n : Name) (m : ℕ) (d : ℤ) → LaysBitl w n m d → meaning t w ≡ Defined n L m d
 sole-bitl t w n m d l =
     let q : w / 256 ≡ 22 = omega arith in
     let r : w % 256 ≡ l .x = omega arith in
@@ -239,28 +232,28 @@ sole-bitl t w n m d l =
     simp (a1, a2, a3, none, q, r, name, m-is, d-is)
 
 -- one of the whole words, or a later one
-step : (t : Tables) (w v : ℕ) (m n : Name) (rest : Option ℕ) → reading t v ≡ Defined m L 0 (pos 0) → cond (eqb (rank m) (rank n)) (Some v) rest ≡ Some w → (rest ≡ Some w → reading t w ≡ Defined n L 0 (pos 0)) → reading t w ≡ Defined n L 0 (pos 0)
+step : (t : Tables) (w v : ℕ) (m n : Name) (rest : Option ℕ) → meaning t v ≡ Defined m L 0 (pos 0) → cond (eqb (rank m) (rank n)) (Some v) rest ≡ Some w → (rest ≡ Some w → meaning t w ≡ Defined n L 0 (pos 0)) → meaning t w ≡ Defined n L 0 (pos 0)
 step t w v m n rest e h k =
     ⊎-elim
     (λ b.
     let i : Some v ≡ Some w = sym (cond-true (eqb (rank m) (rank n)) (Some v) rest b) ∙ h in
     let vw : v ≡ w = cc in
     let mn : m ≡ n = rank-tells m n (eqb-true (rank m) (rank n) b) in
-    sym (ap (reading t) vw) ∙ e ∙ ap (λ x. Defined x L 0 (pos 0)) mn)
+    sym (ap (meaning t) vw) ∙ e ∙ ap (λ x. Defined x L 0 (pos 0)) mn)
     (λ b. k (sym (cond-false (eqb (rank m) (rank n)) (Some v) rest b) ∙ h))
     (cases-bool (eqb (rank m) (rank n)))
 
-whole-reads : (t : Tables) (w : ℕ) (n : Name) → word-of n ≡ Some w → reading t w ≡ Defined n L 0 (pos 0)
+whole-reads : (t : Tables) (w : ℕ) (n : Name) → word-of n ≡ Some w → meaning t w ≡ Defined n L 0 (pos 0)
 whole-reads t w n h = step t w 0x2700 Mbs n _ refl h (λ g. step t w 0x2740 Cpbs n _ refl g (λ g. step t w 0x2780 Trbs n _ refl g (λ g. step t w 0x27c0 Scbs n _ refl g (λ g. step t w 0x3700 Mhs n _ refl g (λ g. step t w 0x1200 Rk n _ refl g (λ g. step t w 0x1201 Hrk n _ refl g (λ g. step t w 0x1202 Sfn n _ refl g (λ g. step t w 0x1700 Sim n _ refl g (λ g. step t w 0x1701 Sfm n _ refl g (λ g. let z : _≡_ {A = ℕ} 0 1 = cc in absurd (omega arith)))))))))))
 
-sole-whole : (t : Tables) (w : ℕ) (n : Name) (m : ℕ) (d : ℤ) → LaysWhole w n m d → reading t w ≡ Defined n L m d
+sole-whole : (t : Tables) (w : ℕ) (n : Name) (m : ℕ) (d : ℤ) → LaysWhole w n m d → meaning t w ≡ Defined n L m d
 sole-whole t w n m d l =
     let m-is = l .m-is in
     let d-is = l .d-is in
     simp (m-is, d-is) (whole-reads t w n (l .word))
 
 -- a layout of a word is its reading
-pub sole : (t : Tables) → Facts t → (w : ℕ) (n : Name) (f : Format) (m : ℕ) (d : ℤ) → Lays t w n f m d → reading t w ≡ Defined n f m d
+pub sole : (t : Tables) → Facts t → (w : ℕ) (n : Name) (f : Format) (m : ℕ) (d : ℤ) → Lays t w n f m d → meaning t w ≡ Defined n f m d
 sole t g w n A1 m d l = sole-a1 t g w n m d l
 sole t g w n A2 m d l = sole-a2 t g w n m d l
 sole t g w n A3 m d l = sole-a3 t g w n m d l

@@ -96,12 +96,15 @@ abbrev pub put-l : Option ℕ → Tables → Name → ℤ → ℤ → Result ℕ
 put-l (Some w) t n m d = below w m (unsigned-in 1 d)
 put-l None t n m d = cond (eqb (rank n) (rank Bitl)) (below (22 * 256) m (unsigned-in 256 d)) (need (number-in n 0 (t .l)) 21 (λ k. below (k * 256) m (cond (branches n) (signed-in 128 d) (unsigned-in 256 d))))
 
+abbrev pub made-of : Tables → Name → Format → ℤ → ℤ → Result ℕ ℕ
+made-of t n A1 m d = put-a t n A1 m d
+made-of t n A2 m d = put-a t n A2 m d
+made-of t n A3 m d = put-a t n A3 m d
+made-of t n A4 m d = put-a t n A4 m d
+made-of t n A5 m d = put-a t n A5 m d
+made-of t n L m d = put-l (word-of n) t n m d
+made-of t n B m d = put-b t n m d
+
 -- the word of a name, a format, M and D; 21 if the book has none, and else 22 if M or D does not fit
-abbrev pub put : Tables → Name → Format → ℤ → ℤ → Result ℕ ℕ
-put t n A1 m d = put-a t n A1 m d
-put t n A2 m d = put-a t n A2 m d
-put t n A3 m d = put-a t n A3 m d
-put t n A4 m d = put-a t n A4 m d
-put t n A5 m d = put-a t n A5 m d
-put t n L m d = put-l (word-of n) t n m d
-put t n B m d = put-b t n m d
+unfoldable pub put : Tables → Name → Format → ℤ → ℤ → Result ℕ ℕ
+put t n f m d = made-of t n f m d

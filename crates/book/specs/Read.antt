@@ -1,6 +1,6 @@
 use Prim.Native.Nat.{ℕ, _+_}
 use mathlib.Core.Bool.{cond}
-use mathlib.Core.List.{List, [], _∷_, _++_}
+use mathlib.Core.List.{[], _∷_, _++_}
 use lib.Dec.{eqb}
 use lib.ListN.{replicate}
 use Rattle.std.specs.declared.option.Option.{Option}
@@ -37,9 +37,12 @@ gather front n t (x ∷ xs) = cond (eqb x 10) (line-go n (three front) t (λ t'.
 abbrev pub no-tables : Tables
 no-tables = record { a = replicate 64 None; l = replicate 64 None; b = replicate 4 None; patterns = replicate 5 None }
 
+abbrev pub gathered : Bytes → Read
+gathered s = gather [] 1 no-tables s
+
 -- a text is read into empty tables, line by line
-abbrev pub read-rule : Bytes → Read
-read-rule s = gather [] 1 no-tables s
+unfoldable pub read-rule : Bytes → Read
+read-rule s = gathered s
 
 abbrev pub told : Read → Result (Unit {0}) (ℕ × ℕ)
 told (Ok t) = Ok tt

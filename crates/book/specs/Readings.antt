@@ -68,6 +68,10 @@ abbrev pub in-a : Option Format → Tables → ℕ → Reading
 in-a None t w = NoPattern
 in-a (Some f) t w = by-a (getD (t .a) (w / 1024) None) f w
 
--- what a word means: bits 0 to 5 zero, bits 0 to 3 zero, bits 0 and 1 zero, and the rest
-abbrev pub reading : Tables → ℕ → Reading
-reading t w = cond (ltb w 1024) Undefined (cond (ltb w 4096) (in-b (getD (t .b) (w / 1024) None) w) (cond (ltb w 16384) (in-l t w) (in-a (pick (t .patterns) (w / 64 % 16)) t w)))
+-- bits 0 to 5 zero, bits 0 to 3 zero, bits 0 and 1 zero, and the rest
+abbrev pub meaning : Tables → ℕ → Reading
+meaning t w = cond (ltb w 1024) Undefined (cond (ltb w 4096) (in-b (getD (t .b) (w / 1024) None) w) (cond (ltb w 16384) (in-l t w) (in-a (pick (t .patterns) (w / 64 % 16)) t w)))
+
+-- what a word means under the tables
+unfoldable pub reading : Tables → ℕ → Reading
+reading t w = meaning t w

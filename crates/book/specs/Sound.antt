@@ -1,5 +1,5 @@
 use Prim.Native.Nat.{ℕ, _+_, _^_}
-use mathlib.Core.Bool.{Bool, true, false, not, _&&_, _||_}
+use mathlib.Core.Bool.{Bool, true, not, _&&_, _||_}
 use mathlib.Core.List.{List, [], _∷_}
 use lib.Dec.{eqb, leb, ltb}
 use Rattle.std.specs.declared.option.Option.{Option}
@@ -17,7 +17,7 @@ between low high k = leb low k && leb k high
 abbrev pub reserved : ℕ → Bool
 reserved k = eqb k 18 || (eqb k 22 || (eqb k 23 || (eqb k 39 || eqb k 55)))
 
--- a number and a name that go together under each letter
+-- a number and a name that go together under each letter; by rank the A names come first, then the L names, B and BL
 abbrev pub legal-a : ℕ → Name → Bool
 legal-a k n = between 16 63 k && between 0 30 (rank n)
 
@@ -58,5 +58,6 @@ abbrev pub parted : ℕ → List (Option ℕ) → Bool
 parted i [] = true
 parted i (p ∷ ps) = free i p ps && parted (i + 1) ps
 
+-- every number and name is legal, no name stands twice, every pattern has its length, and none begins another
 abbrev pub sound : Tables → Bool
 sound t = (entries legal-a 0 (t .a) && apart (t .a)) && ((entries legal-l 0 (t .l) && apart (t .l)) && ((entries legal-b 0 (t .b) && apart (t .b)) && (entries legal-pattern 0 (t .patterns) && parted 0 (t .patterns))))

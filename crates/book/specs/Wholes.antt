@@ -14,6 +14,7 @@ use Rattle.word.specs.Fields.{as-signed}
 abbrev pub whole-words : List (Name × ℕ)
 whole-words = (Mbs, 0x2700) ∷ (Cpbs, 0x2740) ∷ (Trbs, 0x2780) ∷ (Scbs, 0x27c0) ∷ (Mhs, 0x3700) ∷ (Rk, 0x1200) ∷ (Hrk, 0x1201) ∷ (Sfn, 0x1202) ∷ (Sim, 0x1700) ∷ (Sfm, 0x1701) ∷ []
 
+-- the name of a whole word, and the word of a name
 abbrev pub whole-in : List (Name × ℕ) → ℕ → Option Name
 whole-in [] w = None
 whole-in (r ∷ rs) w = cond (eqb w (r .1)) (Some (r .0)) (whole-in rs w)

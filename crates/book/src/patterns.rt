@@ -1,6 +1,5 @@
 ghost use Prim.Native.Nat.{_≤_, _<_};
 ghost use mathlib.Core.Path.{_≡_};
-ghost use lib.ListN.{length};
 ghost use Rattle.std.specs.Options.{Cases};
 ghost use Rattle.book.specs.Patterns.{place-of, length-at, pattern-of, begins, clashes, every};
 use code::Format;

@@ -3,7 +3,7 @@ ghost use mathlib.Core.Path.{_≡_};
 ghost use lib.ListN.{length};
 ghost use Rattle.std.specs.Options.{Cases};
 ghost use Rattle.book.specs.Wholes.{word-of};
-ghost use Rattle.book.specs.Put.{number-in, v-limit, m-limit, d-limit, word-a, pattern-at, put-a, put-b, put-l, put, answered};
+ghost use Rattle.book.specs.Put.{number-in, v-limit, m-limit, d-limit, word-a, pattern-at, put-a, put-b, put-l, made-of, put, answered};
 ghost use Rattle.book.specs.Laws.{Reads};
 use crate::book::Book;
 use crate::unput::Unput;
@@ -145,7 +145,7 @@ impl Book {
     }
 
     fn put(&self, name: Name, format: Format, m: i32, d: i32) -> Result<u16, Unput>
-        ensures { λ r. ⌜ answered r ≡ put (now (self .entry) .tables) name format m d ⌝ }
+        ensures { λ r. ⌜ answered r ≡ made-of (now (self .entry) .tables) name format m d ⌝ }
     {
         match format {
             Format::A1 | Format::A2 | Format::A3 | Format::A4 | Format::A5 => self.put_a(

@@ -1,6 +1,6 @@
 ghost use Prim.Native.Nat.{_/_, _%_, _<_};
 ghost use mathlib.Core.Path.{_≡_};
-ghost use Rattle.book.specs.Readings.{fits, pick, m-of, d-of, in-l, in-a, reading};
+ghost use Rattle.book.specs.Readings.{fits, pick, m-of, d-of, in-l, in-a, meaning, reading};
 ghost use Rattle.book.specs.Laws.{Laid, Sole, Backs};
 use crate::book::Book;
 use crate::tables::Tables;
@@ -103,7 +103,7 @@ fn read_l(tables: &Tables, word: u16) -> Reading
 }
 
 fn read_word(tables: &Tables, word: u16) -> Reading
-    ensures { λ r. ⌜ r ≡ reading (now (tables .entry)) word ⌝ }
+    ensures { λ r. ⌜ r ≡ meaning (now (tables .entry)) word ⌝ }
 {
     match word {
         0..=0x03ff => Reading::Undefined,

@@ -1,3 +1,2 @@
-pub mod Tables
-pub mod FormatTables
+pub mod Firsts
 pub mod Ranks

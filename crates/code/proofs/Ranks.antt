@@ -1,6 +1,6 @@
 use Prim.Native.Nat.{ℕ}
 use mathlib.Core.Path.{_≡_, refl, sym, _∙_, ap}
-use mathlib.Core.List.{List, _++_}
+use mathlib.Core.List.{_++_}
 use lib.ListN.{getD}
 use Rattle.code.specs.declared.name.Name.{Name}
 use Rattle.code.specs.declared.name.Name.the-variants.{Ldb, Ld, Ldw, Ldx, Stb, St, Stw, Stx, Ad, Adw, Sb, Sbw, Adx, Sbx, Cp, Cpw, Cpx, Nw, Nx, Mx, Dx, Ldy, Sty, Ady, Sby, Ldz, Stz, Adz, Sbz, Bi, Bli, Ldl, Adl, Sbl, Cpl, Nl, Ml, Bitx, Bz, Bnz, Bn, Bnn, Bca, Bof, B, Bl, Mbs, Cpbs, Trbs, Scbs, Mhs, Rk, Hrk, Sfn, Sim, Sfm, Bitl}

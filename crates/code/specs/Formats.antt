@@ -1,10 +1,8 @@
 use Prim.Native.Nat.{ℕ}
-use mathlib.Core.Bool.{cond}
 use mathlib.Core.List.{List, [], _∷_}
 use lib.Chars.{codes}
-use Rattle.std.specs.shelf.Text.{sameBytes}
 use Rattle.std.specs.declared.option.Option.{Option}
-use Rattle.std.specs.declared.option.Option.the-variants.{Some, None}
+use Rattle.code.specs.Spelling.{first}
 use Rattle.code.specs.declared.format.Format.{Format}
 use Rattle.code.specs.declared.format.Format.the-variants.{A1, A2, A3, A4, A5, L, B}
 
@@ -21,10 +19,5 @@ spelled B = codes "B"
 abbrev pub formats : List Format
 formats = A1 ∷ A2 ∷ A3 ∷ A4 ∷ A5 ∷ L ∷ B ∷ []
 
--- the first of the formats that is spelled so
-abbrev pub formed : List Format → List ℕ → Option Format
-formed [] s = None
-formed (f ∷ fs) s = cond (sameBytes (spelled f) s) (Some f) (formed fs s)
-
 unfoldable pub format-of : List ℕ → Option Format
-format-of s = formed formats s
+format-of s = first spelled formats s

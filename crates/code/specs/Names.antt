@@ -1,11 +1,9 @@
 use Prim.Native.Nat.{ℕ}
-use mathlib.Core.Bool.{Bool, true, false, cond}
 use mathlib.Core.List.{List, [], _∷_}
 use lib.Chars.{codes}
 use Rattle.std.specs.Options.{orOther}
-use Rattle.std.specs.shelf.Text.{sameBytes}
 use Rattle.std.specs.declared.option.Option.{Option}
-use Rattle.std.specs.declared.option.Option.the-variants.{Some, None}
+use Rattle.code.specs.Spelling.{first}
 use Rattle.code.specs.declared.name.Name.{Name}
 use Rattle.code.specs.declared.name.Name.the-variants.{Ldb, Ld, Ldw, Ldx, Stb, St, Stw, Stx, Ad, Adw, Sb, Sbw, Adx, Sbx, Cp, Cpw, Cpx, Nw, Nx, Mx, Dx, Ldy, Sty, Ady, Sby, Ldz, Stz, Adz, Sbz, Bi, Bli, Ldl, Adl, Sbl, Cpl, Nl, Ml, Bitx, Bz, Bnz, Bn, Bnn, Bca, Bof, B, Bl, Mbs, Cpbs, Trbs, Scbs, Mhs, Rk, Hrk, Sfn, Sim, Sfm, Bitl}
 
@@ -142,22 +140,17 @@ names-b = B ∷ Bl ∷ []
 abbrev pub names-fixed : List Name
 names-fixed = Mbs ∷ Cpbs ∷ Trbs ∷ Scbs ∷ Mhs ∷ Rk ∷ Hrk ∷ Sfn ∷ Sim ∷ Sfm ∷ Bitl ∷ []
 
--- the first of the names that is spelled so
-abbrev pub named : List Name → List ℕ → Option Name
-named [] s = None
-named (n ∷ ns) s = cond (sameBytes (spelled n) s) (Some n) (named ns s)
-
 unfoldable pub name-a : List ℕ → Option Name
-name-a s = named names-a s
+name-a s = first spelled names-a s
 
 unfoldable pub name-l : List ℕ → Option Name
-name-l s = named names-l s
+name-l s = first spelled names-l s
 
 unfoldable pub name-b : List ℕ → Option Name
-name-b s = named names-b s
+name-b s = first spelled names-b s
 
 unfoldable pub name-fixed : List ℕ → Option Name
-name-fixed s = named names-fixed s
+name-fixed s = first spelled names-fixed s
 
 -- the name that is spelled so, of all
 abbrev pub name-of : List ℕ → Option Name

@@ -1,6 +1,6 @@
-ghost use Prim.Native.Nat.{ℕ};
 ghost use mathlib.Core.Path.{_≡_};
-ghost use Rattle.code.specs.Formats.{spelled, formed, format-of};
+ghost use Rattle.code.specs.Spelling.{first};
+ghost use Rattle.code.specs.Formats.{spelled, format-of};
 use crate::format::Format;
 use text::same_text;
 
@@ -29,7 +29,7 @@ pub fn format_spelling(format: Format) -> &'static [u8]
 }
 
 fn find_format(formats: &[Format], text: &[u8]) -> Option<Format>
-    ensures { λ r. ⌜ r ≡ formed (now (formats .entry)) (now (text .entry)) ⌝ }
+    ensures { λ r. ⌜ r ≡ first spelled (now (formats .entry)) (now (text .entry)) ⌝ }
 {
     for format in formats {
         if same_text(format_spelling(*format), text) {

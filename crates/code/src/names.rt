@@ -1,6 +1,6 @@
-ghost use Prim.Native.Nat.{ℕ};
 ghost use mathlib.Core.Path.{_≡_};
-ghost use Rattle.code.specs.Names.{spelled, named, rank, name-a, name-l, name-b, name-fixed, name-of};
+ghost use Rattle.code.specs.Spelling.{first};
+ghost use Rattle.code.specs.Names.{spelled, rank, name-a, name-l, name-b, name-fixed, name-of};
 use crate::name::Name;
 use text::same_text;
 
@@ -142,7 +142,7 @@ pub fn rank_of(name: Name) -> u8
 }
 
 fn find_name(names: &[Name], text: &[u8]) -> Option<Name>
-    ensures { λ r. ⌜ r ≡ named (now (names .entry)) (now (text .entry)) ⌝ }
+    ensures { λ r. ⌜ r ≡ first spelled (now (names .entry)) (now (text .entry)) ⌝ }
 {
     for name in names {
         if same_text(spelling(*name), text) {

@@ -7,5 +7,11 @@ use std::error::AnyError;
 use work::recover;
 
 fn main(rt: LibcRuntime) -> Result<(), AnyError> {
-    rt.report(recover(&rt))
+    match recover(&rt) {
+        Ok(()) => Ok(()),
+        Err(e) => {
+            eprintln!(rt, "recover: {e}")?;
+            Err(e)
+        }
+    }
 }

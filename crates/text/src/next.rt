@@ -1,4 +1,3 @@
-ghost use Prim.Native.Nat.{_≤_};
 ghost use mathlib.Core.Path.{_≡_};
 ghost use Rattle.text.specs.Next.{shown, line-of, rest-of, line-after, left};
 use crate::line::Line;

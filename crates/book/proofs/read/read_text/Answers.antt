@@ -10,14 +10,16 @@ use Rattle.text.proofs.Following.{shorter}
 use Rattle.book.specs.declared.tables.Tables.{Tables}
 use Rattle.book.specs.Columns.{Three}
 use Rattle.book.specs.Faults.{fault-number}
-use Rattle.book.specs.Read.{Read}
+use Rattle.book.specs.Read.{Read, read-rule}
 use Rattle.book.proofs.Gather.{stops, ends, malformed, goes-on, turns-away}
 use Rattle.book.proofs.read.read_text.Needs as need
 
 pub returns-in-Unended : need.returns-in-Unended
+unfolding read-rule
 returns-in-Unended c = sym (stops (left (c .lines .lines)) (c .lines .lines .line) (c .lines .tables) (c .in-Unended .ensures tt .answer)) ∙ c .lines .inv
 
 pub returns-then-complete : need.returns-then-complete
+unfolding read-rule
 returns-then-complete c =
     let t : Tables = c .lines .tables in
     let n = c .lines .lines .line in
@@ -25,6 +27,7 @@ returns-then-complete c =
     e ∙ sym (ends (left (c .lines .lines)) n t (c .in-End .ensures tt .answer)) ∙ c .lines .inv
 
 pub returns-else-complete : need.returns-else-complete
+unfolding read-rule
 returns-else-complete c =
     let t : Tables = c .lines .tables in
     let n = c .lines .lines .line in
@@ -32,6 +35,7 @@ returns-else-complete c =
     e ∙ sym (ends (left (c .lines .lines)) n t (c .in-End .ensures tt .answer)) ∙ c .lines .inv
 
 pub returns-in-rest : need.returns-in-rest
+unfolding read-rule
 returns-in-rest c = sym (malformed (left (c .lines .lines)) (c .in-Text .s .now) (c .lines .lines .line) (c .lines .tables) (c .in-Text .ensures tt .answer) (c .in-rest .ensures tt)) ∙ c .lines .inv
 
 pub lines-less : need.lines-less
@@ -47,6 +51,7 @@ lines-again c =
     goes-on (left (c .lines .lines)) (left (c .next-line .last .self)) (c .in-Text .s .now) (c .lines .lines .line) (c .next-line .last .self .line) (c .lines .tables) (c .in-Ok .t) f (c .in-Text .ensures tt .answer) (c .in-Text .ensures tt .rest) (c .in-Text .ensures tt .number) (c .in-Some .ensures tt) (c .in-Ok .ensures tt) ∙ c .lines .inv
 
 pub returns-in-Err : need.returns-in-Err
+unfolding read-rule
 returns-in-Err c =
     let f : Three = (c .in-Some .f .letter .now, c .in-Some .f .name .now, c .in-Some .f .value .now) in
     sym (turns-away (left (c .lines .lines)) (c .in-Text .s .now) (c .lines .lines .line) (c .lines .tables) f (fault-number (c .in-Err .fault)) (c .in-Text .ensures tt .answer) (c .in-Some .ensures tt) (c .in-Err .ensures tt)) ∙ c .lines .inv

@@ -1,7 +1,9 @@
+use Rattle.book.specs.Readings.{reading}
 use Rattle.book.proofs.Trips.{laid, only, backs}
 use Rattle.book.proofs.book.Book.reading.Needs as need
 
 pub returns : need.returns
+unfolding reading
 returns c =
     let b = c .args .self .now in
     let e = c .read-word .ensures in
