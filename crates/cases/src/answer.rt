@@ -43,7 +43,20 @@ fn registers_of(words: &mut Words) -> Option<Registers> {
     let zr = words.flag()?;
     let of = words.flag()?;
     let ca = words.flag()?;
-    Some(Registers { a, b, x, y, z, s, l, fm, n, zr, of, ca })
+    Some(Registers {
+        a,
+        b,
+        x,
+        y,
+        z,
+        s,
+        l,
+        fm,
+        n,
+        zr,
+        of,
+        ca,
+    })
 }
 
 fn bay_of(word: &[u8]) -> Option<Bay> {
@@ -96,7 +109,16 @@ fn case_of<'a>(words: &mut Words<'a>, image: &mut Vec<u8>) -> Option<Case<'a>> {
     let bay = bay_of(words.next_word()?)?;
     fill(image, words.next_word()?)?;
     let budget = words.half()?;
-    if words.is_done() { Some(Case { label, registers, bay, budget }) } else { None }
+    if words.is_done() {
+        Some(Case {
+            label,
+            registers,
+            bay,
+            budget,
+        })
+    } else {
+        None
+    }
 }
 
 // Each byte that differs, with its address, parted by commas.
@@ -112,7 +134,11 @@ fn print_changes(rt: &LibcRuntime, before: &Vec<u8>, after: &Owned) -> Result<()
             any = true;
         }
     }
-    if any { println!(rt, "")? } else { println!(rt, "-")? }
+    if any {
+        println!(rt, "")?
+    } else {
+        println!(rt, "-")?
+    }
     Ok(())
 }
 

@@ -1,6 +1,5 @@
 ghost use Prim.Native.Nat.{_<_};
 ghost use Rattle.std.specs.Options.{Cases};
-
 use machine::Grant;
 use machine::Kind;
 use text::cut;
@@ -15,7 +14,10 @@ pub struct Words<'a> {
 
 impl<'a> Words<'a> {
     pub fn new(text: &'a [u8], by: u8) -> Words<'a> {
-        Words { rest: Some(text), by }
+        Words {
+            rest: Some(text),
+            by,
+        }
     }
 
     pub fn next_word(&mut self) -> Option<&'a [u8]> {
@@ -97,5 +99,9 @@ pub fn grant_of(word: &[u8]) -> Option<Grant> {
     };
     let first = parts.half()?;
     let last = parts.half()?;
-    if parts.is_done() { Some(Grant { kind, first, last }) } else { None }
+    if parts.is_done() {
+        Some(Grant { kind, first, last })
+    } else {
+        None
+    }
 }

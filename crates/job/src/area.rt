@@ -8,7 +8,11 @@ pub struct Area {
 impl Area {
     // None where it does not lie in the store whole.
     pub fn new(address: u16, halfwords: u16) -> Option<Area> {
-        if address as u32 + 2 * halfwords as u32 <= 65536 { Some(Area { address, halfwords }) } else { None }
+        if address as u32 + 2 * halfwords as u32 <= 65536 {
+            Some(Area { address, halfwords })
+        } else {
+            None
+        }
     }
 
     pub fn bytes(&self) -> usize {

@@ -47,7 +47,16 @@ fn needed<T: Copy>(slot: Option<T>, entry: &'static str) -> Result<T, Fault> {
 impl<'a> Draft<'a> {
     pub fn new() -> Draft<'a> {
         let bay = Bay { grants: [None; 6] };
-        Draft { number: None, bay, registers: None, input: None, output: None, turns: None, records: None, results: None }
+        Draft {
+            number: None,
+            bay,
+            registers: None,
+            input: None,
+            output: None,
+            turns: None,
+            records: None,
+            results: None,
+        }
     }
 
     // One grant more, refused as a hall refuses it.
@@ -73,7 +82,16 @@ impl<'a> Draft<'a> {
 
     // The whole job: each entry is there, records can be put in, and results can be taken.
     pub fn finish(self) -> Result<Job<'a>, Fault> {
-        let Draft { number, bay, registers, input, output, turns, records, results } = self;
+        let Draft {
+            number,
+            bay,
+            registers,
+            input,
+            output,
+            turns,
+            records,
+            results,
+        } = self;
         let number = needed(number, "bay")?;
         let registers = needed(registers, "registers")?;
         let input = needed(input, "input")?;
@@ -87,6 +105,16 @@ impl<'a> Draft<'a> {
         if !reaches(&bay, Access::Read, output.address, output.bytes()) {
             return Err(Fault::Denied("output"));
         }
-        Ok(Job { number, bay, registers, input, output, turns, budget, records, results })
+        Ok(Job {
+            number,
+            bay,
+            registers,
+            input,
+            output,
+            turns,
+            budget,
+            records,
+            results,
+        })
     }
 }

@@ -28,14 +28,18 @@ pub impl fmt::Display for Fault as FaultDisplay {
     fn fmt<W: fmt::Write>(&self, f: &mut fmt::Formatter<W>) -> fmt::Result {
         match *self {
             Fault::Unended => f.write_str("the line lacks its line feed"),
-            Fault::Unknown => f.write_str("no such entry (bay, grant, registers, input, output, turns, records, results)"),
+            Fault::Unknown => f.write_str(
+                "no such entry (bay, grant, registers, input, output, turns, records, results)",
+            ),
             Fault::Fields => f.write_str("another number of fields than this entry has"),
             Fault::Number => f.write_str("not a number, or out of range"),
             Fault::Text => f.write_str("a file name that is empty or not UTF-8"),
             Fault::Repeated => f.write_str("this entry stands twice"),
             Fault::Reversed => f.write_str("grant refused with 4: last is below first"),
             Fault::SeventhGrant => f.write_str("grant refused with 5: a bay has six at most"),
-            Fault::Clash => f.write_str("grant refused with 6: it shares a byte with another, and one of them is a write grant"),
+            Fault::Clash => f.write_str(
+                "grant refused with 6: it shares a byte with another, and one of them is a write grant",
+            ),
             Fault::Outside => f.write_str("the halfwords do not lie in the store whole"),
             Fault::Missing(entry) => {
                 f.write_str("the job has no entry ")?;

@@ -5,6 +5,8 @@ mod fault;
 mod job;
 mod parse;
 mod run;
+#[cfg(test)]
+mod tests;
 
 pub use area::Area;
 pub use fault::Fault;

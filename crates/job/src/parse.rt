@@ -54,7 +54,11 @@ impl<'a> Fields<'a> {
     }
 
     fn end(&self) -> Result<(), Fault> {
-        if self.rest.is_some() { Err(Fault::Fields) } else { Ok(()) }
+        if self.rest.is_some() {
+            Err(Fault::Fields)
+        } else {
+            Ok(())
+        }
     }
 }
 
@@ -77,7 +81,20 @@ fn registers_of(fields: &mut Fields) -> Result<Registers, Fault> {
     let z = fields.half()?;
     let s = fields.half()?;
     let l = fields.half()?;
-    Ok(Registers { a, b, x, y, z, s, l, fm: false, n: false, zr: false, of: false, ca: false })
+    Ok(Registers {
+        a,
+        b,
+        x,
+        y,
+        z,
+        s,
+        l,
+        fm: false,
+        n: false,
+        zr: false,
+        of: false,
+        ca: false,
+    })
 }
 
 fn area_of(fields: &mut Fields) -> Result<Area, Fault> {
@@ -131,7 +148,10 @@ pub fn read_job(text: &[u8]) -> Result<Job<'_>, Refused> {
         let number = lines.line;
         match lines.next_line() {
             Line::Text(line) => refuse(enter(&mut draft, line), number)?,
-            Line::Unended => return Err(Refused { fault: Fault::Unended, line: number }),
+            Line::Unended => return Err(Refused {
+                fault: Fault::Unended,
+                line: number,
+            }),
             Line::End => return refuse(draft.finish(), number),
         }
     }

@@ -3,7 +3,6 @@ ghost use Rattle.book.specs.Readings.{reading};
 ghost use Rattle.job.specs.Ran.{reached, recorded};
 ghost use Rattle.machine.specs.Turn.{Run, run};
 ghost use mathlib.Core.Path.{_≡_};
-
 use crate::job::Job;
 use book::Book;
 use machine::Bay;
@@ -22,7 +21,14 @@ pub struct Ran {
 }
 
 // So many turns of that budget, or up to a stop.
-fn run_turns<S: Store>(book: &Book, start: Registers, store: &mut S, bay: &Bay, turns: u16, budget: u16) -> Ran
+fn run_turns<S: Store>(
+    book: &Book,
+    start: Registers,
+    store: &mut S,
+    bay: &Bay,
+    turns: u16,
+    budget: u16,
+) -> Ran
     ensures { λ q. ⌜ reached q (S·Store .bytes (now (store .exit))) ≡ run (reading (now (book .entry) .tables)) (now (bay .entry)) (turns * budget) 0 start (S·Store .bytes (now (store .entry))) ⌝ }
 {
     let mut registers = start;
@@ -31,10 +37,18 @@ fn run_turns<S: Store>(book: &Book, start: Registers, store: &mut S, bay: &Bay, 
         let turned = turn(book, &mut registers, store, bay, budget);
         steps += turned.steps as u32;
         if let Some(stop) = turned.stop {
-            return Ran { steps, registers, stop: Some(stop) };
+            return Ran {
+                steps,
+                registers,
+                stop: Some(stop),
+            };
         }
     }
-    Ran { steps, registers, stop: None }
+    Ran {
+        steps,
+        registers,
+        stop: None,
+    }
 }
 
 // The record goes to the job's input, and the program runs from the job's registers.

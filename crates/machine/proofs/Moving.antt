@@ -130,7 +130,7 @@ each-with P Q R f [] h g = tt
 each-with P Q R f (x ∷ xs) h g = (f x (h .0) (g .0), each-with P Q R f xs (h .1) (g .1))
 
 module _ (reads : ℕ → Reading) (bay : Bay) (name : Name) (i : Item) (at : ℕ → ℕ → ℕ)
-         (rule : (t : Mode) (r : Registers) → executed name t r ≡ string (λ p x. moved i (at (p .z)) (at (p .y)) p x) r) where
+    (rule : (t : Mode) (r : Registers) → executed name t r ≡ string (λ p x. moved i (at (p .z)) (at (p .y)) p x) r) where
   -- one element of a string that is granted
   one : (r : Registers) (bs : List ℕ) (w : ℕ) → obey (sight bay bs) (fetch (r .s)) ≡ Ok w → reads w ≡ Defined name L 0 (pos 0) → eqb (r .x) 0 ≡ false → Readable bay i (at (r .z) (nearer (r .x))) → Writable bay i (at (r .y) (nearer (r .x))) → stepped reads r (sight bay bs) ≡ Ok (record { registers = passed (advanced r) (nearer (r .x)); pending = pending i (at (r .y) (nearer (r .x))) (value i bs (at (r .z) (nearer (r .x)))) })
   one r bs w f d x p q =

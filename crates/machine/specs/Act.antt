@@ -12,7 +12,6 @@ use Rattle.machine.specs.declared.stop.Cause.{Cause}
 use Rattle.machine.specs.declared.stop.Place.the-variants.{Operand}
 
 infixl 10 _>>=_
-
 pub data Act : Type 1 where
   done : Registers → Act
   store : Item → ℕ → ℕ → Registers → Act

@@ -10,7 +10,6 @@ use Rattle.machine.specs.declared.stop.Place.{Place}
 use Rattle.machine.specs.declared.stop.Place.the-variants.{Fetch}
 
 infixl 10 _>>=_
-
 pub data Plan : Type 0 → Type 1 where
   give : {T : Type 0} → T → Plan T
   halt : {T : Type 0} → Cause → Plan T

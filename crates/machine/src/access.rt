@@ -2,7 +2,6 @@ ghost use Prim.Native.Nat.{ℕ, _+_, _-_, _*_, _%_, _<_};
 ghost use Rattle.machine.specs.Access.{allows, byte, checked, full, full-at, granted, half, half-at, half-may, item-may, item-read, permits, seen, within};
 ghost use Rattle.machine.specs.declared.stop.Access.the-variants.{Read, Write};
 ghost use mathlib.Core.Path.{_≡_};
-
 use crate::bay::Bay;
 use crate::bay::Grant;
 use crate::bay::Kind;
@@ -44,7 +43,11 @@ fn any_covers(grants: &[Option<Grant>], access: Access, at: u16) -> bool
 fn check_byte(bay: &Bay, access: Access, at: u16) -> Result<(), Denial>
     ensures { λ r. ⌜ r ≡ checked (now (bay .entry)) access at ⌝ }
 {
-    if any_covers(&bay.grants, access, at) { Ok(()) } else { Err(Denial { access, byte: at }) }
+    if any_covers(&bay.grants, access, at) {
+        Ok(())
+    } else {
+        Err(Denial { access, byte: at })
+    }
 }
 
 pub(crate) fn may_write_byte(bay: &Bay, at: u16) -> Result<(), Denial>

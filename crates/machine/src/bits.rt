@@ -3,7 +3,6 @@ ghost use Rattle.machine.specs.Access.{Sight};
 ghost use Rattle.machine.specs.Act.{perform};
 ghost use Rattle.machine.specs.Bits.{altered, bit-done, controlled, ends-zero, mask, operation};
 ghost use mathlib.Core.Path.{_≡_};
-
 use crate::effect::Effect;
 use crate::effect::quiet;
 use crate::registers::Registers;
@@ -59,7 +58,12 @@ fn is_zero(operation: Operation, al: u16, bit: u8) -> bool
 {
     match operation {
         Operation::Test => al & mask_of(bit) == 0,
-        Operation::Toggle | Operation::Place | Operation::Set | Operation::Clear => alter(operation, al, bit) == 0,
+        Operation::Toggle | Operation::Place | Operation::Set | Operation::Clear => alter(
+            operation,
+            al,
+            bit,
+        )
+            == 0,
     }
 }
 
@@ -68,7 +72,11 @@ fn operate(operation: Operation, bit: u8, r: Registers) -> Registers
     ensures { λ q. ⌜ q ≡ bit-done operation bit r ⌝ }
 {
     let al = (r.a % 65536) as u16;
-    Registers { a: r.a - r.a % 65536 + alter(operation, al, bit) as u32, zr: is_zero(operation, al, bit), ..r }
+    Registers {
+        a: r.a - r.a % 65536 + alter(operation, al, bit) as u32,
+        zr: is_zero(operation, al, bit),
+        ..r
+    }
 }
 
 // The control byte has the operation in its high half and the bit's number in its low half.

@@ -1,6 +1,5 @@
 ghost use Rattle.machine.specs.Act.{still};
 ghost use mathlib.Core.Path.{_≡_};
-
 use crate::registers::Registers;
 
 // What a step has yet to write: at most one item, at its aligned address.
@@ -23,5 +22,8 @@ pub struct Effect {
 pub(crate) fn quiet(registers: Registers) -> Effect
     ensures { λ q. ⌜ q ≡ still registers ⌝ }
 {
-    Effect { registers, pending: Pending::Nothing }
+    Effect {
+        registers,
+        pending: Pending::Nothing,
+    }
 }

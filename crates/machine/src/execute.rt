@@ -2,7 +2,6 @@ ghost use Prim.Native.Nat.{ℕ, _+_, _-_, _*_, _%_, _<_};
 ghost use Rattle.code.specs.declared.name.Name.the-variants.{Cpbs, Mbs, Mhs, Scbs, Trbs};
 ghost use Rattle.machine.specs.Instructions.{branched, branched-on-overflow, does};
 ghost use mathlib.Core.Path.{_≡_};
-
 use crate::bay::Bay;
 use crate::bits::control;
 use crate::effect::Effect;
@@ -32,7 +31,11 @@ fn branch(taken: bool, d: u16, r: Registers) -> Registers
 fn branch_on_overflow(d: u16, r: Registers) -> Registers
     ensures { λ q. ⌜ q ≡ branched-on-overflow d r ⌝ }
 {
-    if r.of { Registers { of: false, ..r }.jump(d) } else { r }
+    if r.of {
+        Registers { of: false, ..r }.jump(d)
+    } else {
+        r
+    }
 }
 
 fn indexed(d: u16, x: u16) -> u8
@@ -44,35 +47,61 @@ fn indexed(d: u16, x: u16) -> u8
 fn mbs<S: Store>(mode: Mode, r: Registers, store: &S, bay: &Bay) -> Result<Effect, Cause>
     ensures { λ q. ⌜ q ≡ does Mbs mode r (now (bay .entry)) (S·Store .bytes (now (store .entry))) ⌝ }
 {
-    if r.x == 0 { Ok(quiet(end_string(r))) } else { move_byte(r, move_nearer(r.x), store, bay) }
+    if r.x == 0 {
+        Ok(quiet(end_string(r)))
+    } else {
+        move_byte(r, move_nearer(r.x), store, bay)
+    }
 }
 
 fn mhs<S: Store>(mode: Mode, r: Registers, store: &S, bay: &Bay) -> Result<Effect, Cause>
     ensures { λ q. ⌜ q ≡ does Mhs mode r (now (bay .entry)) (S·Store .bytes (now (store .entry))) ⌝ }
 {
-    if r.x == 0 { Ok(quiet(end_string(r))) } else { move_half(r, move_nearer(r.x), store, bay) }
+    if r.x == 0 {
+        Ok(quiet(end_string(r)))
+    } else {
+        move_half(r, move_nearer(r.x), store, bay)
+    }
 }
 
 fn trbs<S: Store>(mode: Mode, r: Registers, store: &S, bay: &Bay) -> Result<Effect, Cause>
     ensures { λ q. ⌜ q ≡ does Trbs mode r (now (bay .entry)) (S·Store .bytes (now (store .entry))) ⌝ }
 {
-    if r.x == 0 { Ok(quiet(end_string(r))) } else { translate(r, move_nearer(r.x), store, bay) }
+    if r.x == 0 {
+        Ok(quiet(end_string(r)))
+    } else {
+        translate(r, move_nearer(r.x), store, bay)
+    }
 }
 
 fn cpbs<S: Store>(mode: Mode, r: Registers, store: &S, bay: &Bay) -> Result<Effect, Cause>
     ensures { λ q. ⌜ q ≡ does Cpbs mode r (now (bay .entry)) (S·Store .bytes (now (store .entry))) ⌝ }
 {
-    if r.x == 0 { Ok(quiet(end_string(r))) } else { compare(r, move_nearer(r.x), store, bay) }
+    if r.x == 0 {
+        Ok(quiet(end_string(r)))
+    } else {
+        compare(r, move_nearer(r.x), store, bay)
+    }
 }
 
 fn scbs<S: Store>(mode: Mode, r: Registers, store: &S, bay: &Bay) -> Result<Effect, Cause>
     ensures { λ q. ⌜ q ≡ does Scbs mode r (now (bay .entry)) (S·Store .bytes (now (store .entry))) ⌝ }
 {
-    if r.x == 0 { Ok(quiet(end_string(r))) } else { scan(r, move_nearer(r.x), store, bay) }
+    if r.x == 0 {
+        Ok(quiet(end_string(r)))
+    } else {
+        scan(r, move_nearer(r.x), store, bay)
+    }
 }
 
 // The instruction of that name; S is at the next one.
-pub(crate) fn execute<S: Store>(name: Name, mode: Mode, r: Registers, store: &S, bay: &Bay) -> Result<Effect, Cause>
+pub(crate) fn execute<S: Store>(
+    name: Name,
+    mode: Mode,
+    r: Registers,
+    store: &S,
+    bay: &Bay,
+) -> Result<Effect, Cause>
     ensures { λ q. ⌜ q ≡ does name mode r (now (bay .entry)) (S·Store .bytes (now (store .entry))) ⌝ }
 {
     let d = mode.d;

@@ -1,7 +1,6 @@
 ghost use Rattle.code.specs.declared.name.Name.the-variants.{Nw, Nx, Mx, Dx};
 ghost use Rattle.machine.specs.Instructions.{does};
 ghost use mathlib.Core.Path.{_≡_};
-
 use crate::address::operand_full;
 use crate::address::operand_half;
 use crate::bay::Bay;

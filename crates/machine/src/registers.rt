@@ -1,7 +1,6 @@
 ghost use Prim.Native.Nat.{ℕ, _+_, _*_, _%_};
 ghost use Rattle.machine.specs.Registers.{advanced, computed-a, computed-x, divided, jumped, linked, loaded-a, loaded-x, marked, raised};
 ghost use mathlib.Core.Path.{_≡_};
-
 use word::arithmetic::Outcome;
 
 // The registers and markers of a program. A and B have 32 bits; X, Y, Z, S and L have 16.
@@ -26,31 +25,53 @@ impl Registers {
     pub(crate) fn load_a(self, value: u32) -> Registers
         ensures { λ q. ⌜ q ≡ loaded-a self value ⌝ }
     {
-        Registers { a: value, n: value >= 0x8000_0000, zr: value == 0, ..self }
+        Registers {
+            a: value,
+            n: value >= 0x8000_0000,
+            zr: value == 0,
+            ..self
+        }
     }
 
     pub(crate) fn load_x(self, value: u16) -> Registers
         ensures { λ q. ⌜ q ≡ loaded-x self value ⌝ }
     {
-        Registers { x: value, n: value >= 0x8000, zr: value == 0, ..self }
+        Registers {
+            x: value,
+            n: value >= 0x8000,
+            zr: value == 0,
+            ..self
+        }
     }
 
     pub(crate) fn mark<T: Copy>(self, outcome: Outcome<T>) -> Registers
         ensures { λ q. ⌜ q ≡ marked self outcome ⌝ }
     {
-        Registers { n: outcome.negative, zr: outcome.zero, of: self.of || outcome.overflow, ca: outcome.carry, ..self }
+        Registers {
+            n: outcome.negative,
+            zr: outcome.zero,
+            of: self.of || outcome.overflow,
+            ca: outcome.carry,
+            ..self
+        }
     }
 
     pub(crate) fn compute_a(self, outcome: Outcome<u32>) -> Registers
         ensures { λ q. ⌜ q ≡ computed-a self outcome ⌝ }
     {
-        Registers { a: outcome.value, ..self.mark(outcome) }
+        Registers {
+            a: outcome.value,
+            ..self.mark(outcome)
+        }
     }
 
     pub(crate) fn compute_x(self, outcome: Outcome<u16>) -> Registers
         ensures { λ q. ⌜ q ≡ computed-x self outcome ⌝ }
     {
-        Registers { x: outcome.value, ..self.mark(outcome) }
+        Registers {
+            x: outcome.value,
+            ..self.mark(outcome)
+        }
     }
 
     pub(crate) fn divide_x(self, quotient: Option<u16>) -> Registers
@@ -66,14 +87,20 @@ impl Registers {
     pub(crate) fn advance(self) -> Registers
         ensures { λ q. ⌜ q ≡ advanced self ⌝ }
     {
-        Registers { s: self.s.wrapping_add(2), ..self }
+        Registers {
+            s: self.s.wrapping_add(2),
+            ..self
+        }
     }
 
     // A branch by so many halfwords.
     pub(crate) fn jump(self, d: u16) -> Registers
         ensures { λ q. ⌜ q ≡ jumped self d ⌝ }
     {
-        Registers { s: self.s.wrapping_add(d.wrapping_mul(2)), ..self }
+        Registers {
+            s: self.s.wrapping_add(d.wrapping_mul(2)),
+            ..self
+        }
     }
 
     // S into Z, for the way back.

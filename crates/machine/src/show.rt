@@ -7,7 +7,20 @@ use std::fmt;
 // The numbers of A B X Y Z S L, and then FM N ZR OF CA as 0 or 1.
 pub impl fmt::Display for Registers as RegistersDisplay {
     fn fmt<W: fmt::Write>(&self, f: &mut fmt::Formatter<W>) -> fmt::Result {
-        let Registers { a, b, x, y, z, s, l, fm, n, zr, of, ca } = *self;
+        let Registers {
+            a,
+            b,
+            x,
+            y,
+            z,
+            s,
+            l,
+            fm,
+            n,
+            zr,
+            of,
+            ca,
+        } = *self;
         write!(f, "{a} {b} {x} {y} {z} {s} {l} ")?;
         let fm = fm as u8;
         let n = n as u8;

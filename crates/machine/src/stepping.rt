@@ -6,7 +6,6 @@ ghost use Rattle.machine.specs.Step.{answer, begun, bytes-after, defined, form
 ghost use Rattle.machine.specs.Laws.{Local, Only, Unaltered, operand-granted};
 ghost use Rattle.machine.specs.Stops.{told-of};
 ghost use mathlib.Core.Path.{_≡_};
-
 use crate::access::read_half;
 use crate::address::at_place;
 use crate::bay::Bay;
@@ -43,7 +42,13 @@ fn is_format_a(format: Format) -> bool
     }
 }
 
-fn obey_defined<S: Store>(name: Name, mode: Mode, r: Registers, store: &S, bay: &Bay) -> Result<Effect, Cause>
+fn obey_defined<S: Store>(
+    name: Name,
+    mode: Mode,
+    r: Registers,
+    store: &S,
+    bay: &Bay,
+) -> Result<Effect, Cause>
     ensures { λ q. ⌜ q ≡ perform (sight (now (bay .entry)) (S·Store .bytes (now (store .entry)))) (defined name mode r) ⌝ }
 {
     if is_format_a(mode.format) && r.fm {
@@ -53,13 +58,28 @@ fn obey_defined<S: Store>(name: Name, mode: Mode, r: Registers, store: &S, bay: 
 }
 
 // What a word reads as is obeyed; S is at the next one.
-fn obey_reading<S: Store>(reading: Reading, r: Registers, store: &S, bay: &Bay) -> Result<Effect, Cause>
+fn obey_reading<S: Store>(
+    reading: Reading,
+    r: Registers,
+    store: &S,
+    bay: &Bay,
+) -> Result<Effect, Cause>
     ensures { λ q. ⌜ q ≡ perform (sight (now (bay .entry)) (S·Store .bytes (now (store .entry)))) (begun reading r) ⌝ }
 {
     match reading {
         Reading::NoPattern => Err(Cause::NoPattern),
         Reading::Undefined => Err(Cause::Undefined),
-        Reading::Defined(name, format, m, d) => obey_defined(name, Mode { format, m, d: d.cast_unsigned() }, r, store, bay),
+        Reading::Defined(name, format, m, d) => obey_defined(
+            name,
+            Mode {
+                format,
+                m,
+                d: d.cast_unsigned(),
+            },
+            r,
+            store,
+            bay,
+        ),
     }
 }
 
@@ -97,7 +117,12 @@ fn commit<S: Store>(store: &mut S, pending: Pending)
     }
 }
 
-pub(crate) fn obey_next<S: Store>(book: &Book, registers: &mut Registers, store: &mut S, bay: &Bay) -> Result<(), Stop>
+pub(crate) fn obey_next<S: Store>(
+    book: &Book,
+    registers: &mut Registers,
+    store: &mut S,
+    bay: &Bay,
+) -> Result<(), Stop>
     ensures answers { λ q. ⌜ q ≡ answer (stepped (reading (now (book .entry) .tables)) (now (registers .entry)) (sight (now (bay .entry)) (S·Store .bytes (now (store .entry))))) ⌝ }
     ensures registers { λ q. ⌜ now (registers .exit) ≡ registers-after (now (registers .entry)) (stepped (reading (now (book .entry) .tables)) (now (registers .entry)) (sight (now (bay .entry)) (S·Store .bytes (now (store .entry))))) ⌝ }
     ensures bytes { λ q. ⌜ S·Store .bytes (now (store .exit)) ≡ bytes-after (S·Store .bytes (now (store .entry))) (stepped (reading (now (book .entry) .tables)) (now (registers .entry)) (sight (now (bay .entry)) (S·Store .bytes (now (store .entry))))) ⌝ }
@@ -109,7 +134,12 @@ pub(crate) fn obey_next<S: Store>(book: &Book, registers: &mut Registers, store:
 }
 
 // One step, or the stop that it meets.
-pub fn step<S: Store>(book: &Book, registers: &mut Registers, store: &mut S, bay: &Bay) -> Result<(), Stop>
+pub fn step<S: Store>(
+    book: &Book,
+    registers: &mut Registers,
+    store: &mut S,
+    bay: &Bay,
+) -> Result<(), Stop>
     ensures answers { λ q. ⌜ q ≡ answer (stepped (reading (now (book .entry) .tables)) (now (registers .entry)) (sight (now (bay .entry)) (S·Store .bytes (now (store .entry))))) ⌝ }
     ensures numbers { λ q. ⌜ told-of q ≡ told-of (answer (stepped (reading (now (book .entry) .tables)) (now (registers .entry)) (sight (now (bay .entry)) (S·Store .bytes (now (store .entry)))))) ⌝ }
     ensures registers { λ q. ⌜ now (registers .exit) ≡ registers-after (now (registers .entry)) (stepped (reading (now (book .entry) .tables)) (now (registers .entry)) (sight (now (bay .entry)) (S·Store .bytes (now (store .entry))))) ⌝ }

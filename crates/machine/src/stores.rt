@@ -4,7 +4,6 @@ ghost use Rattle.machine.specs.Instructions.{does, half-stored, stored-byte, s
 ghost use Rattle.machine.specs.Access.{sight};
 ghost use Rattle.machine.specs.Act.{perform};
 ghost use mathlib.Core.Path.{_≡_};
-
 use crate::access::may_write_byte;
 use crate::access::may_write_full;
 use crate::access::may_write_half;
@@ -20,18 +19,32 @@ use crate::stop::Place;
 use store::Store;
 
 // A halfword to be stored where the operand lies, with the registers after it.
-fn store_half<S: Store>(mode: Mode, r: Registers, value: u16, after: Registers, store: &S, bay: &Bay) -> Result<Effect, Cause>
+fn store_half<S: Store>(
+    mode: Mode,
+    r: Registers,
+    value: u16,
+    after: Registers,
+    store: &S,
+    bay: &Bay,
+) -> Result<Effect, Cause>
     ensures { λ q. ⌜ q ≡ perform (sight (now (bay .entry)) (S·Store .bytes (now (store .entry)))) (half-stored mode r value after) ⌝ }
 {
     let at = form(mode, 2, r, store, bay)?;
     at_place(Place::Operand, may_write_half(bay, at))?;
-    Ok(Effect { registers: after, pending: Pending::Half(at - at % 2, value) })
+    Ok(Effect {
+        registers: after,
+        pending: Pending::Half(at - at % 2, value),
+    })
 }
 
 fn mark_byte(r: Registers) -> Registers
     ensures { λ q. ⌜ q ≡ stored-byte r ⌝ }
 {
-    Registers { n: false, zr: r.a % 256 == 0, ..r }
+    Registers {
+        n: false,
+        zr: r.a % 256 == 0,
+        ..r
+    }
 }
 
 // OF is raised where A does not fit a signed halfword.
@@ -40,19 +53,32 @@ fn mark_half(r: Registers) -> Registers
 {
     let half = r.a % 65536;
     let fits = r.a < 0x8000 || r.a >= 0xffff_8000;
-    Registers { n: half >= 0x8000, zr: half == 0, of: r.of || !fits, ..r }
+    Registers {
+        n: half >= 0x8000,
+        zr: half == 0,
+        of: r.of || !fits,
+        ..r
+    }
 }
 
 fn mark_full(r: Registers) -> Registers
     ensures { λ q. ⌜ q ≡ stored-full r ⌝ }
 {
-    Registers { n: r.a >= 0x8000_0000, zr: r.a == 0, ..r }
+    Registers {
+        n: r.a >= 0x8000_0000,
+        zr: r.a == 0,
+        ..r
+    }
 }
 
 fn mark_x(r: Registers) -> Registers
     ensures { λ q. ⌜ q ≡ stored-x r ⌝ }
 {
-    Registers { n: r.x >= 0x8000, zr: r.x == 0, ..r }
+    Registers {
+        n: r.x >= 0x8000,
+        zr: r.x == 0,
+        ..r
+    }
 }
 
 pub(crate) fn stb<S: Store>(mode: Mode, r: Registers, store: &S, bay: &Bay) -> Result<Effect, Cause>
@@ -60,7 +86,10 @@ pub(crate) fn stb<S: Store>(mode: Mode, r: Registers, store: &S, bay: &Bay) -> R
 {
     let at = form(mode, 1, r, store, bay)?;
     at_place(Place::Operand, may_write_byte(bay, at))?;
-    Ok(Effect { registers: mark_byte(r), pending: Pending::Byte(at, (r.a % 256) as u8) })
+    Ok(Effect {
+        registers: mark_byte(r),
+        pending: Pending::Byte(at, (r.a % 256) as u8),
+    })
 }
 
 pub(crate) fn st<S: Store>(mode: Mode, r: Registers, store: &S, bay: &Bay) -> Result<Effect, Cause>
@@ -74,7 +103,10 @@ pub(crate) fn stw<S: Store>(mode: Mode, r: Registers, store: &S, bay: &Bay) -> R
 {
     let at = form(mode, 4, r, store, bay)?;
     at_place(Place::Operand, may_write_full(bay, at))?;
-    Ok(Effect { registers: mark_full(r), pending: Pending::Full(at - at % 4, r.a) })
+    Ok(Effect {
+        registers: mark_full(r),
+        pending: Pending::Full(at - at % 4, r.a),
+    })
 }
 
 pub(crate) fn stx<S: Store>(mode: Mode, r: Registers, store: &S, bay: &Bay) -> Result<Effect, Cause>

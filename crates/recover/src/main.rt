@@ -1,5 +1,5 @@
 // Runs a shore program over a file of records: recover BOOK IMAGE JOB
-mod inputs;
+mod names;
 mod report;
 mod work;
 

@@ -26,14 +26,25 @@ fn print_unhalted(rt: &LibcRuntime, record: u64, ran: &Ran) -> io::Result<()> {
     let steps = ran.steps;
     let registers = ran.registers;
     match ran.stop {
-        Some(stop) => println!(rt, "record {record} stopped {stop} after {steps} steps, registers {registers}"),
-        None => println!(rt, "record {record} spent all its turns, {steps} steps, registers {registers}"),
+        Some(stop) => println!(
+            rt,
+            "record {record} stopped {stop} after {steps} steps, registers {registers}"
+        ),
+        None => println!(
+            rt,
+            "record {record} spent all its turns, {steps} steps, registers {registers}"
+        ),
     }
 }
 
 impl Tally {
     pub fn new(registers: Registers) -> Tally {
-        Tally { records: 0, steps: 0, halted: 0, registers }
+        Tally {
+            records: 0,
+            steps: 0,
+            halted: 0,
+            registers,
+        }
     }
 
     // One run more; told where it did not halt.
@@ -53,12 +64,20 @@ impl Tally {
     }
 
     pub fn print(&self, rt: &LibcRuntime, name: &str, job: &Job) -> io::Result<()> {
-        let Tally { records, steps, halted, registers } = *self;
+        let Tally {
+            records,
+            steps,
+            halted,
+            registers,
+        } = *self;
         let bay = job.number;
         println!(rt, "job {name} in bay {bay}")?;
         println!(rt, "records {records}")?;
         println!(rt, "steps {steps}")?;
         println!(rt, "halted {halted}")?;
-        println!(rt, "last registers, A B X Y Z S L FM N ZR OF CA: {registers}")
+        println!(
+            rt,
+            "last registers, A B X Y Z S L FM N ZR OF CA: {registers}"
+        )
     }
 }

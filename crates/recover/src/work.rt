@@ -1,10 +1,10 @@
-use crate::inputs::named_files;
-use crate::inputs::parse_job;
-use crate::inputs::read_book;
-use crate::inputs::read_file;
-use crate::inputs::read_image;
-use crate::inputs::read_records;
-use crate::inputs::refuse_existing;
+use crate::names::named_files;
+use inputs::parse_job;
+use inputs::read_book;
+use inputs::read_file;
+use inputs::read_image;
+use inputs::read_records;
+use inputs::refuse_existing;
 use crate::report::Tally;
 use book::Book;
 use job::Job;
@@ -20,7 +20,13 @@ use store::append_all;
 const STEPS_BETWEEN_NOTES: u64 = 20_000_000;
 
 // Runs the job on each record, and gives what came of it with the results one after the other.
-fn run_all(rt: &LibcRuntime, book: &Book, job: &Job, store: &mut Owned, records: &[u8]) -> Result<(Tally, Vec<u8>), AnyError> {
+fn run_all(
+    rt: &LibcRuntime,
+    book: &Book,
+    job: &Job,
+    store: &mut Owned,
+    records: &[u8],
+) -> Result<(Tally, Vec<u8>), AnyError> {
     let mut tally = Tally::new(job.registers);
     let mut results = Vec::new(rt.alloc());
     let mut noted: u64 = 0;

@@ -4,7 +4,6 @@ ghost use Rattle.std.specs.Vec.{made};
 ghost use Rattle.store.specs.Bulk.{taken, written};
 ghost use mathlib.Core.List.{_++_};
 ghost use mathlib.Core.Path.{_≡_};
-
 use crate::store::Store;
 use std::alloc::AllocError;
 
@@ -20,7 +19,12 @@ pub fn write_all<S: Store>(store: &mut S, address: u16, bytes: &[u8])
 }
 
 // So many bytes of a store, from an address on, at the end of a vector.
-pub fn append_all<S: Store>(store: &S, address: u16, length: usize, out: &mut Vec<u8>) -> Result<(), AllocError>
+pub fn append_all<S: Store>(
+    store: &S,
+    address: u16,
+    length: usize,
+    out: &mut Vec<u8>,
+) -> Result<(), AllocError>
     ensures { λ r. ⌜ made r (λ _. vec-items (now (out .exit)) ≡ vec-items (now (out .entry)) ++ taken (S·Store .bytes (now (store .entry))) address length) ⌝ }
 {
     let mut from = address;

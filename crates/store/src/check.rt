@@ -22,5 +22,9 @@ impl Unmade {
 pub fn check_size(memory: &[u8]) -> Result<(), Unmade>
     ensures { λ r. ⌜ numbered r ≡ sized (length (now (memory .entry))) ⌝ }
 {
-    if memory.len() == 65536 { Ok(()) } else { Err(Unmade::Size) }
+    if memory.len() == 65536 {
+        Ok(())
+    } else {
+        Err(Unmade::Size)
+    }
 }

@@ -32,13 +32,25 @@ fn signed32(bits: u32) -> i64
 fn outcome16(value: u16, exact: i64, carry: bool) -> Outcome<u16>
     ensures { λ r. ⌜ r ≡ told w16 value exact carry ⌝ }
 {
-    Outcome { value, negative: exact < 0, zero: value == 0, overflow: exact < -0x8000 || exact > 0x7fff, carry }
+    Outcome {
+        value,
+        negative: exact < 0,
+        zero: value == 0,
+        overflow: exact < -0x8000 || exact > 0x7fff,
+        carry,
+    }
 }
 
 fn outcome32(value: u32, exact: i64, carry: bool) -> Outcome<u32>
     ensures { λ r. ⌜ r ≡ told w32 value exact carry ⌝ }
 {
-    Outcome { value, negative: exact < 0, zero: value == 0, overflow: exact < -0x8000_0000 || exact > 0x7fff_ffff, carry }
+    Outcome {
+        value,
+        negative: exact < 0,
+        zero: value == 0,
+        overflow: exact < -0x8000_0000 || exact > 0x7fff_ffff,
+        carry,
+    }
 }
 
 fn low_sum16(a: u16, b: u16) -> u16
@@ -92,13 +104,21 @@ fn exact_product32(a: u32, b: u32) -> i64
 pub fn add16(a: u16, b: u16) -> Outcome<u16>
     ensures { λ r. ⌜ r ≡ sum w16 a b ⌝ }
 {
-    outcome16(low_sum16(a, b), signed16(a) + signed16(b), a as u32 + b as u32 >= 0x1_0000)
+    outcome16(
+        low_sum16(a, b),
+        signed16(a) + signed16(b),
+        a as u32 + b as u32 >= 0x1_0000,
+    )
 }
 
 pub fn add32(a: u32, b: u32) -> Outcome<u32>
     ensures { λ r. ⌜ r ≡ sum w32 a b ⌝ }
 {
-    outcome32(low_sum32(a, b), signed32(a) + signed32(b), a as u64 + b as u64 >= 0x1_0000_0000)
+    outcome32(
+        low_sum32(a, b),
+        signed32(a) + signed32(b),
+        a as u64 + b as u64 >= 0x1_0000_0000,
+    )
 }
 
 pub fn subtract16(a: u16, b: u16) -> Outcome<u16>

@@ -20,5 +20,9 @@ pub fn full_of(high: u16, low: u16) -> u32
 pub fn extend(half: u16) -> u32
     ensures { λ r. ⌜ r ≡ extended half ⌝ }
 {
-    if half < 0x8000 { half as u32 } else { half as u32 + 0xffff_0000 }
+    if half < 0x8000 {
+        half as u32
+    } else {
+        half as u32 + 0xffff_0000
+    }
 }

@@ -31,11 +31,12 @@ loop-k-again g c =
     let r = c .loop-k .registers in
     let bs = g .S·Store .bytes (c .loop-k .store) in
     let n : ℕ = c .args .turns - (c .loop-k .-k + 1) in
-    let d : c .args .turns - c .loop-k .-k ≡ suc n = omega arith in
-    ( sym (goes-on reads bay (c .args .budget) (n * c .args .budget) r (c .turn-turned .last .registers) bs (g .S·Store .bytes (c .turn-turned .last .store)) (c .turn-turned .result) (c .turn-turned .ensures .runs) (c .loop-k .steps) (c .in-rest .is))
-      ∙ ap (λ i. later (c .loop-k .steps) (run reads bay i 0 r bs)) (more (c .args .turns) (c .loop-k .-k) (c .args .budget) n d)
-      ∙ c .loop-k .inv .0
-    , omega (arith, c .loop-k .inv .1) )
+    let d : c .args .turns - c .loop-k .-k ≡ suc n = omega arith in (
+      sym (goes-on reads bay (c .args .budget) (n * c .args .budget) r (c .turn-turned .last .registers) bs (g .S·Store .bytes (c .turn-turned .last .store)) (c .turn-turned .result) (c .turn-turned .ensures .runs) (c .loop-k .steps) (c .in-rest .is))
+          ∙ ap (λ i. later (c .loop-k .steps) (run reads bay i 0 r bs)) (more (c .args .turns) (c .loop-k .-k) (c .args .budget) n d)
+          ∙ c .loop-k .inv .0,
+      omega (arith, c .loop-k .inv .1),
+    )
 
 pub returns : need.returns
 returns g c =

@@ -11,7 +11,7 @@ loop-byte-again g c =
     let bs : List ℕ = g .S·Store .bytes (c .loop-byte .store) in
     let vs : List ℕ = c .args .bytes .now in
     let e : written bs (c .loop-byte .to) (drop (c .loop-byte .byte-index) vs) ≡ written (set bs (c .loop-byte .to) (getD vs (c .loop-byte .byte-index) 0)) ((c .loop-byte .to + 1) % 65536) (drop (c .loop-byte .byte-index + 1) vs)
-      = at-drop-more (written bs (c .loop-byte .to)) vs (c .loop-byte .byte-index) 0 (c .loop-byte-test .taken) in
+    = at-drop-more (written bs (c .loop-byte .to)) vs (c .loop-byte .byte-index) 0 (c .loop-byte-test .taken) in
     let w = c .write .ensures in
     let i = c .loop-byte .inv in
     cc

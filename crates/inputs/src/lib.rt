@@ -1,22 +1,12 @@
+// The files that the programs read; one that is not right gets one line that says what is wrong and where.
 use book::Book;
 use job::FaultDisplay;
 use job::Job;
 use job::read_job;
-use std::env;
 use std::error::AnyError;
 use std::fs;
 use store::Owned;
 use store::check_size;
-
-// The names of the book, the image and the job.
-pub fn named_files(rt: &LibcRuntime) -> Result<(String, String, String), AnyError> {
-    let mut words = env::args(rt)?;
-    let _program = words.next();
-    match (words.next(), words.next(), words.next(), words.next()) {
-        (Some(book), Some(image), Some(job), None) => Ok((book, image, job)),
-        _ => Err("use: recover BOOK IMAGE JOB".into()),
-    }
-}
 
 pub fn read_file(rt: &LibcRuntime, name: &str) -> Result<Vec<u8>, AnyError> {
     match fs::read(rt, name) {
@@ -33,7 +23,10 @@ pub fn read_book(rt: &LibcRuntime, name: &str) -> Result<Book, AnyError> {
         Err(refused) => {
             let number = refused.fault.number();
             let line = refused.line;
-            Err(format!(rt.alloc(), "{name}: line {line}: the code book is refused with {number}")?.into())
+            Err(format!(
+                rt.alloc(),
+                "{name}: line {line}: the code book is refused with {number}"
+            )?.into())
         }
     }
 }
@@ -45,7 +38,10 @@ pub fn read_image(rt: &LibcRuntime, name: &str) -> Result<Owned, AnyError> {
         Err(unmade) => {
             let number = unmade.number();
             let bytes = image.len();
-            Err(format!(rt.alloc(), "{name}: the image is refused with {number}: it has {bytes} bytes in place of 65536")?.into())
+            Err(format!(
+                rt.alloc(),
+                "{name}: the image is refused with {number}: it has {bytes} bytes in place of 65536"
+            )?.into())
         }
     }
 }
@@ -68,14 +64,20 @@ pub fn read_records(rt: &LibcRuntime, job: &Job) -> Result<Vec<u8>, AnyError> {
     let bytes = records.len();
     let size = job.input.bytes();
     if size == 0 || bytes % size != 0 {
-        return Err(format!(rt.alloc(), "{name}: {bytes} bytes are no whole number of records of {size} bytes")?.into());
+        return Err(format!(
+            rt.alloc(),
+            "{name}: {bytes} bytes are no whole number of records of {size} bytes"
+        )?.into());
     }
     Ok(records)
 }
 
 pub fn refuse_existing(rt: &LibcRuntime, name: &str) -> Result<(), AnyError> {
     if fs::exists(rt, name)? {
-        return Err(format!(rt.alloc(), "{name}: the results file exists already, and is not overwritten")?.into());
+        return Err(format!(
+            rt.alloc(),
+            "{name}: the results file exists already, and is not overwritten"
+        )?.into());
     }
     Ok(())
 }

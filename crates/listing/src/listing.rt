@@ -1,0 +1,11 @@
+use text::Lines;
+
+// A listing that is read halfword by halfword: the lines that are left, what is left of the halfwords of the line in hand,
+// the number of that line, and the end of what was placed.
+#[derive(Drop)]
+pub struct Listing<'a> {
+    pub lines: Lines<'a>,
+    pub rest: &'a [u8],
+    pub line: usize,
+    pub end: u32,
+}
