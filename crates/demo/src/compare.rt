@@ -2,6 +2,7 @@ use std::num::saturating_f64_to_i64;
 
 // The sample's calibration: a height is the count's distance from 2048, times 13, by 8.
 const GAIN: f64 = 1.625;
+
 const ZERO: i64 = 2048;
 
 fn halfword(pair: &[u8]) -> i64 {

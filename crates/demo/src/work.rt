@@ -22,7 +22,12 @@ fn named_files(rt: &LibcRuntime) -> Result<(String, String, String, String), Any
     let mut words = env::args(rt)?;
     let _program = words.next();
     match (words.next(), words.next(), words.next(), words.next()) {
-        (Some(book), Some(listing), Some(calibrate), Some(undo)) => Ok((book, listing, calibrate, undo)),
+        (Some(book), Some(listing), Some(calibrate), Some(undo)) => Ok((
+            book,
+            listing,
+            calibrate,
+            undo,
+        )),
         _ => Err("use: demo BOOK LISTING CALIBRATE UNDO".into()),
     }
 }
@@ -43,12 +48,23 @@ fn assembled(rt: &LibcRuntime, book: &Book, name: &str) -> Result<Owned, AnyErro
 }
 
 // The results of a job on its records, which must all halt.
-fn results(rt: &LibcRuntime, book: &Book, job: &Job, store: &mut Owned, records: &[u8]) -> Result<Vec<u8>, AnyError> {
+fn results(
+    rt: &LibcRuntime,
+    book: &Book,
+    job: &Job,
+    store: &mut Owned,
+    records: &[u8],
+) -> Result<Vec<u8>, AnyError> {
     let mut out = Vec::new(rt.alloc());
     for counts in records.chunks(job.input.bytes().max(1)) {
         let ran = run_record(book, job, store, counts);
         match ran.stop {
-            Some(stop) if matches!(stop.cause, Cause::Halt) => append_all(store, job.output.address, job.output.bytes(), &mut out)?,
+            Some(stop) if matches!(stop.cause, Cause::Halt) => append_all(
+                store,
+                job.output.address,
+                job.output.bytes(),
+                &mut out,
+            )?,
             _ => return Err("a run did not halt".into()),
         }
     }
@@ -67,7 +83,10 @@ pub fn demonstrate(rt: &LibcRuntime) -> Result<(), AnyError> {
     let job = parse_job(rt, undo.as_str(), &text)?;
     let recovered = results(rt, &book, &job, &mut store, &heights)?;
     let (all, differ) = differing(&counts, &recovered);
-    println!(rt, "counts recovered by the shore program: {all}, of which differ: {differ}")?;
+    println!(
+        rt,
+        "counts recovered by the shore program: {all}, of which differ: {differ}"
+    )?;
     let wrong = float_differing(&counts, &heights);
     println!(rt, "a float division with rounding gets wrong: {wrong}")?;
     Ok(())

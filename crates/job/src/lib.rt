@@ -5,8 +5,6 @@ mod fault;
 mod job;
 mod parse;
 mod run;
-#[cfg(test)]
-mod tests;
 
 pub use area::Area;
 pub use fault::Fault;

@@ -1,17 +1,15 @@
-use Prim.Native.Nat.{ℕ, suc, _+_, _<_}
+use Prim.Native.Nat.{ℕ, suc, _+_}
 use native.Mathlib.Omega.{arith}
 use mathlib.Core.Path.{_≡_, refl, sym, _∙_, ap}
-use mathlib.Core.Bool.{Bool, true, false, cond, _&&_, _||_}
-use mathlib.Core.List.{List, [], _∷_, _++_, append-nil, append-assoc}
+use mathlib.Core.Bool.{Bool, true, false, cond}
+use mathlib.Core.List.{[], _∷_, _++_, append-nil, append-assoc}
 use lib.Dec.{eqb, ltb}
 use lib.ListN.{length, take, drop}
-use Rattle.std.specs.declared.option.Option.{Option}
 use Rattle.std.specs.declared.option.Option.the-variants.{Some, None}
-use Rattle.std.specs.declared.result.Result.{Result}
 use Rattle.std.specs.declared.result.Result.the-variants.{Ok, Err}
 use Rattle.std.proofs.shelf.Tests.{lt-ltb, ne-eqb}
 use Rattle.std.proofs.shelf.Ways.{tells}
-use Rattle.text.specs.Search.{Bytes, place, cut-at, empty}
+use Rattle.text.specs.Search.{Bytes, place, empty}
 use Rattle.text.specs.Next.{First, a-line, the-end, unended, line-of, line-2, rest-of, rest-2, line-after}
 use Rattle.text.proofs.Following.{number-on}
 use Rattle.book.specs.declared.tables.Tables.{Tables}

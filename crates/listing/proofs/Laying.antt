@@ -21,7 +21,7 @@ use Rattle.text.specs.Numbers.{number-of}
 use Rattle.listing.specs.Numbers.{then-for, half-of, address-of}
 use Rattle.listing.specs.Words.{words, uncommented}
 use Rattle.listing.specs.Line.{Says, a-word, halfwords, Line, content-of, at-address, from-address, line-rule}
-use Rattle.listing.specs.Listing.{Read, fault-at, more, given, place-rule, half-go, halfs, content-go, entry-go, line-go, gather, listing}
+use Rattle.listing.specs.Listing.{Read, fault-at, more, given, place-rule, half-go, halfs, content-go, line-go, gather, listing}
 use Rattle.listing.specs.Assembled.{wrote, stored, kept}
 use Rattle.listing.specs.Laws.{Rising, Found, Apart, Laid}
 

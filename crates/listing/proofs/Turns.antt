@@ -1,12 +1,12 @@
 use Prim.Native.Nat.{ℕ, _+_, _<_, _≤_}
 use native.Mathlib.Omega.{arith}
-use mathlib.Core.Path.{_≡_, refl, sym, _∙_, ap, subst}
-use mathlib.Core.Bool.{Bool, true, false, cond}
-use mathlib.Core.List.{List, [], _∷_}
+use mathlib.Core.Path.{_≡_, sym, _∙_, ap, subst}
+use mathlib.Core.Bool.{Bool, true, cond}
+use mathlib.Core.List.{List, []}
 use lib.Dec.{ltb}
 use lib.ListN.{length}
 use Rattle.std.specs.declared.option.Option.{Option}
-use Rattle.std.specs.declared.option.Option.the-variants.{Some, None}
+use Rattle.std.specs.declared.option.Option.the-variants.{Some}
 use Rattle.std.specs.declared.result.Result.{Result}
 use Rattle.std.specs.declared.result.Result.the-variants.{Ok, Err}
 use Rattle.std.proofs.shelf.Tests.{lt-ltb, le-ltb, cond-true}
@@ -21,7 +21,7 @@ use Rattle.listing.specs.declared.listing.Listing.{Listing}
 use Rattle.listing.specs.declared.placed.Placed.{Placed}
 use Rattle.listing.specs.Words.{words, uncommented}
 use Rattle.listing.specs.Line.{Says, a-word, Line, line-rule}
-use Rattle.listing.specs.Listing.{Read, fault-at, given, place-rule, halfs, content-go, entry-go, line-go, gather, todo}
+use Rattle.listing.specs.Listing.{Read, fault-at, given, place-rule, halfs, content-go, line-go, gather, todo}
 use Rattle.listing.specs.Rising.{Rises}
 use Rattle.listing.proofs.Gather.{stops, ends, goes}
 

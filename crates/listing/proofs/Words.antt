@@ -1,17 +1,17 @@
 use Prim.Native.Nat.{ℕ, suc, _+_, _<_, _≤_}
 use native.Mathlib.Omega.{arith}
 use mathlib.Core.Path.{_≡_, refl, sym, _∙_, ap}
-use mathlib.Core.Bool.{Bool, true, false, cond}
+use mathlib.Core.Bool.{true, false, cond}
 use mathlib.Core.List.{List, [], _∷_, _++_, append-nil, append-assoc}
 use lib.Dec.{eqb}
 use lib.ListN.{length, take, drop, getD}
 use Rattle.std.proofs.shelf.Lists.{at-drop-more, at-drop-all}
 use mathlib.Core.Logic.{⊎-elim}
 use Rattle.std.proofs.shelf.Tests.{ne-eqb, eq-eqb, cases-bool}
-use Rattle.std.specs.declared.option.Option.the-variants.{Some, None}
+use Rattle.std.specs.declared.option.Option.the-variants.{Some}
 use Rattle.text.specs.Search.{Bytes, place, empty}
 use Rattle.listing.specs.Numbers.{after-minus}
-use Rattle.listing.specs.Words.{gathered, words, spaces, only, Three, three}
+use Rattle.listing.specs.Words.{gathered, words, spaces, only, three}
 
 pub spaces-more : (s : Bytes) (i : ℕ) → i < length s → spaces (drop i s) ≡ cond (eqb (getD s i 0) 32) (suc (spaces (drop (i + 1) s))) 0
 spaces-more s i h = at-drop-more spaces s i 0 h

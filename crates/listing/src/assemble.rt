@@ -1,5 +1,3 @@
-ghost use Prim.Native.Nat.{_/_, _%_};
-ghost use mathlib.Core.List.{[], _∷_};
 ghost use mathlib.Core.Path.{_≡_};
 ghost use Rattle.std.specs.declared.result.Result.the-variants.{Ok};
 ghost use Rattle.listing.specs.Listing.{listing};

@@ -1,6 +1,5 @@
 ghost use mathlib.Core.Path.{_≡_};
-ghost use Rattle.listing.specs.Numbers.{held};
-ghost use Rattle.listing.specs.Words.{words, only, three, triple, uncommented};
+ghost use Rattle.listing.specs.Words.{words, uncommented};
 ghost use Rattle.listing.specs.Line.{instruction, word-line, shown, content-of, entered, line-rule};
 use crate::entry::Content;
 use crate::entry::Entry;

@@ -4,8 +4,8 @@ use text::Lines;
 // the number of that line, and the end of what was placed.
 #[derive(Drop)]
 pub struct Listing<'a> {
-    pub lines: Lines<'a>,
-    pub rest: &'a [u8],
-    pub line: usize,
-    pub end: u32,
+    pub(crate) lines: Lines<'a>,
+    pub(crate) rest: &'a [u8],
+    pub(crate) line: usize,
+    pub(crate) end: u32,
 }

@@ -1,12 +1,12 @@
 use crate::names::named_files;
+use crate::report::Tally;
+use book::Book;
 use inputs::parse_job;
 use inputs::read_book;
 use inputs::read_file;
 use inputs::read_image;
 use inputs::read_records;
 use inputs::refuse_existing;
-use crate::report::Tally;
-use book::Book;
 use job::Job;
 use job::run_record;
 use std::error::AnyError;

@@ -1,5 +1,3 @@
-use mathlib.Core.List.{List, _∷_}
-use mathlib.Core.Path.{_≡_}
 use Rattle.listing.specs.Words.{words}
 use Rattle.listing.proofs.Words.{three-by}
 use Rattle.listing.proofs.word.three_words.Needs as need
