@@ -1,6 +1,6 @@
 """Makes the case tables: what a checking program reads, and what it must print.
 
-    python3 make_cases.py [DATA [CASES]]    ../../data and ../../data-cases
+    python3 make_cases.py [DATA [CASES]]    ../../crates/recover/data and ../../crates/cases
                                             unless given
 
 Writes CASES/stdin and CASES/stdout. README.md has the form of the lines.
@@ -1112,8 +1112,8 @@ def puts(t):
 
 
 def main(arguments):
-    data = arguments[0] if arguments else os.path.join(HERE, "..", "..", "data")
-    cases = arguments[1] if len(arguments) > 1 else os.path.join(HERE, "..", "..", "data-cases")
+    data = arguments[0] if arguments else os.path.join(HERE, "..", "..", "crates", "recover", "data")
+    cases = arguments[1] if len(arguments) > 1 else os.path.join(HERE, "..", "..", "crates", "cases")
     with open(os.path.join(data, "shore.book"), "rb") as file:
         t = Table(machine.read_book(file.read()))
     t.asked.append("# made by tools/oracle/make_cases.py, not by hand")

@@ -1,6 +1,6 @@
 """Makes the derived files of the sample, and checks them.
 
-    python3 make_sample.py [DATA]       DATA is ../../data unless given
+    python3 make_sample.py [DATA]       DATA is ../../crates/recover/data unless given
 
 Reads shore.book, shore.lst, calibrate.job and undo.job; writes shore.img,
 counts.rec and heights.rec anew; prints what the runs took.
@@ -12,7 +12,7 @@ import sys
 import machine
 
 DATA = sys.argv[1] if len(sys.argv) > 1 else os.path.join(
-    os.path.dirname(os.path.abspath(__file__)), "..", "..", "data")
+    os.path.dirname(os.path.abspath(__file__)), "..", "..", "crates", "recover", "data")
 
 
 def path(name):

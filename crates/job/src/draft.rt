@@ -59,7 +59,7 @@ impl<'a> Draft<'a> {
         }
     }
 
-    // One grant more, refused as a hall refuses it.
+    // One grant more, or a refusal.
     pub fn grant(&mut self, grant: Grant) -> Result<(), Fault> {
         if grant.last < grant.first {
             return Err(Fault::Reversed);

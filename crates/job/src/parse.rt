@@ -113,24 +113,70 @@ fn bay_of(fields: &mut Fields) -> Result<u8, Fault> {
     }
 }
 
-// One entry; blank lines and comments say nothing.
-fn enter<'a>(draft: &mut Draft<'a>, line: &'a [u8]) -> Result<(), Fault> {
+// What a line of a job says, by its first field.
+#[derive(Clone, Copy)]
+enum Entry {
+    Bay,
+    Grant,
+    Registers,
+    Input,
+    Output,
+    Turns,
+    Records,
+    Results,
+}
+
+fn entry_of(word: &[u8]) -> Option<Entry> {
+    match word {
+        b"bay" => Some(Entry::Bay),
+        b"grant" => Some(Entry::Grant),
+        b"registers" => Some(Entry::Registers),
+        b"input" => Some(Entry::Input),
+        b"output" => Some(Entry::Output),
+        b"turns" => Some(Entry::Turns),
+        b"records" => Some(Entry::Records),
+        b"results" => Some(Entry::Results),
+        _ => None,
+    }
+}
+
+fn turns_of(fields: &mut Fields) -> Result<(u16, u16), Fault> {
+    let count = fields.half()?;
+    let budget = fields.half()?;
+    Ok((count, budget))
+}
+
+fn enter_numbers(draft: &mut Draft, entry: Entry, fields: &mut Fields) -> Result<(), Fault> {
+    match entry {
+        Entry::Bay => once(&mut draft.number, bay_of(fields)?),
+        Entry::Grant => draft.grant(grant_of(fields)?),
+        Entry::Registers => once(&mut draft.registers, registers_of(fields)?),
+        Entry::Input => once(&mut draft.input, area_of(fields)?),
+        Entry::Output => once(&mut draft.output, area_of(fields)?),
+        Entry::Turns => once(&mut draft.turns, turns_of(fields)?),
+        Entry::Records | Entry::Results => Ok(()),
+    }
+}
+
+fn enter<'a>(draft: &mut Draft<'a>, entry: Entry, fields: &mut Fields<'a>) -> Result<(), Fault> {
+    match entry {
+        Entry::Records => once(&mut draft.records, fields.file()?)?,
+        Entry::Results => once(&mut draft.results, fields.file()?)?,
+        _ => enter_numbers(draft, entry, fields)?,
+    }
+    fields.end()
+}
+
+// One line; empty lines and comments say nothing.
+fn take_line<'a>(draft: &mut Draft<'a>, line: &'a [u8]) -> Result<(), Fault> {
     if line.is_empty() || line[0] == b'#' {
         return Ok(());
     }
     let mut fields = Fields { rest: Some(line) };
-    match fields.next_field()? {
-        b"bay" => once(&mut draft.number, bay_of(&mut fields)?)?,
-        b"grant" => draft.grant(grant_of(&mut fields)?)?,
-        b"registers" => once(&mut draft.registers, registers_of(&mut fields)?)?,
-        b"input" => once(&mut draft.input, area_of(&mut fields)?)?,
-        b"output" => once(&mut draft.output, area_of(&mut fields)?)?,
-        b"turns" => once(&mut draft.turns, (fields.half()?, fields.half()?))?,
-        b"records" => once(&mut draft.records, fields.file()?)?,
-        b"results" => once(&mut draft.results, fields.file()?)?,
-        _ => return Err(Fault::Unknown),
+    match entry_of(fields.next_field()?) {
+        Some(entry) => enter(draft, entry, &mut fields),
+        None => Err(Fault::Unknown),
     }
-    fields.end()
 }
 
 fn refuse<T: Drop>(result: Result<T, Fault>, line: usize) -> Result<T, Refused> {
@@ -147,7 +193,7 @@ pub fn read_job(text: &[u8]) -> Result<Job<'_>, Refused> {
     'entries: loop {
         let number = lines.line;
         match lines.next_line() {
-            Line::Text(line) => refuse(enter(&mut draft, line), number)?,
+            Line::Text(line) => refuse(take_line(&mut draft, line), number)?,
             Line::Unended => return Err(Refused {
                 fault: Fault::Unended,
                 line: number,

@@ -1,7 +1,7 @@
-ghost use Prim.Native.Nat.{ℕ, _+_, _-_, _*_, _<_, _≤_};
+ghost use Prim.Native.Nat.{_*_};
 ghost use Rattle.book.specs.Readings.{reading};
 ghost use Rattle.job.specs.Ran.{reached, recorded};
-ghost use Rattle.machine.specs.Turn.{Run, run};
+ghost use Rattle.machine.specs.Turn.{run};
 ghost use mathlib.Core.Path.{_≡_};
 use crate::job::Job;
 use book::Book;

@@ -3,19 +3,19 @@ use Prim.Native.Nat.{ℕ, _+_, _/_, _%_}
 use lib.Dec.{eqb}
 use lib.ListN.{getD, set}
 use lib.Seq.{getD-set-other}
-use mathlib.Core.Bool.{Bool, true, false, cond, _&&_, _||_}
-use mathlib.Core.List.{List, [], _∷_}
+use mathlib.Core.Bool.{Bool, true, false, _&&_, _||_}
+use mathlib.Core.List.{List, []}
 use mathlib.Core.Logic.{⊎-elim}
 use mathlib.Core.Path.{_≡_, refl, sym, _∙_, ap, subst}
 use native.Mathlib.Omega.{arith}
-use Rattle.std.proofs.shelf.Tests.{and-parts, cases-bool, cond-true, eqb-false, eqb-true, false≢true, or-parts}
+use Rattle.std.proofs.shelf.Tests.{cases-bool, eqb-false, eqb-true, false≢true, or-parts}
 use Rattle.std.specs.declared.result.Result.{Result}
 use Rattle.std.specs.declared.result.Result.the-variants.{Ok, Err}
 use Rattle.code.specs.declared.reading.Reading.{Reading}
-use Rattle.machine.specs.Access.{Item, Sight, aligned, allows, bind, byte, checked, full, half, half-may, item-may, sight}
+use Rattle.machine.specs.Access.{Item, aligned, allows, bind, byte, checked, full, half, half-may, item-may, sight}
 use Rattle.machine.specs.Act.{Act, done, fail, pending, perform, still, store, _>>=_}
 use Rattle.machine.specs.Laws.{Only, among, item-bytes, operand-granted, target}
-use Rattle.machine.specs.Plan.{Plan, obey, placed}
+use Rattle.machine.specs.Plan.{obey, placed}
 use Rattle.machine.specs.Step.{bytes-after, half-into, into, planned, stepped, stopped}
 use Rattle.machine.specs.declared.bay.Bay.{Bay}
 use Rattle.machine.specs.declared.effect.Effect.{Effect}
@@ -24,7 +24,6 @@ use Rattle.machine.specs.declared.stop.Access.the-variants.{Write}
 use Rattle.machine.specs.declared.stop.Cause.{Cause}
 use Rattle.machine.specs.declared.stop.Denial.{Denial}
 use Rattle.machine.specs.declared.stop.Place.{Place}
-use Rattle.machine.specs.declared.stop.Stop.{Stop}
 
 -- a byte that is not written stays
 other : (bs : List ℕ) (b a v : ℕ) → eqb a b ≡ false → getD (set bs b v) a 0 ≡ getD bs a 0

@@ -1,12 +1,11 @@
 -- A string instruction that moves, whole.
-use Prim.Native.Nat.{ℕ, zero, suc, _+_, _-_, _%_, _<_, _≤_}
-use lib.Dec.{eqb, ltb}
+use Prim.Native.Nat.{ℕ, zero, suc, _+_, _-_, _%_, _<_}
+use lib.Dec.{eqb}
 use lib.IntN.{pos}
 use lib.ListN.{getD}
-use mathlib.Core.Bool.{Bool, true, false, cond, _||_}
+use mathlib.Core.Bool.{true, false, cond}
 use mathlib.Core.List.{List, [], _∷_}
-use mathlib.Core.Logic.{⊎-elim}
-use mathlib.Core.Path.{_≡_, refl, sym, _∙_, ap, subst}
+use mathlib.Core.Path.{_≡_, refl, _∙_, ap}
 use native.Mathlib.Omega.{arith}
 use Rattle.std.proofs.shelf.Tests.{eq-eqb, ne-eqb}
 use Rattle.std.proofs.shelf.Ways.{tells}
@@ -20,12 +19,12 @@ use Rattle.code.specs.declared.reading.Reading.{Reading}
 use Rattle.code.specs.declared.reading.Reading.the-variants.{Defined}
 use Rattle.word.specs.Bytes as bytes
 use Rattle.machine.specs.Access.{Item, Sight, aligned, allows, bind, byte, checked, full, half, half-at, half-may, item-may, item-read, seen, sight}
-use Rattle.machine.specs.Act.{Act, done, pending, perform, store}
+use Rattle.machine.specs.Act.{done, pending, perform, store}
 use Rattle.machine.specs.Instructions.{executed}
-use Rattle.machine.specs.Laws.{Apart, Each, Movable, Moves, Moves-bytes, Moves-halfwords, Readable, Writable, among, copied, elements, item-bytes, places, value}
+use Rattle.machine.specs.Laws.{Apart, Each, Movable, Moves-bytes, Moves-halfwords, Readable, Writable, copied, elements, places, value}
 use Rattle.machine.specs.Plan.{fetch, obey, placed}
 use Rattle.machine.specs.Registers.{advanced, minus, plus, with-s, with-x}
-use Rattle.machine.specs.Step.{begun, into, mode, planned, stepped, stopped}
+use Rattle.machine.specs.Step.{begun, into, mode, stepped, stopped}
 use Rattle.machine.specs.Strings.{again, complete, moved, nearer, passed, string}
 use Rattle.machine.specs.Strings as strings
 use Rattle.machine.specs.Turn.{Run, run}

@@ -2,7 +2,7 @@
 use Prim.Native.Nat.{ℕ, zero, suc, _+_}
 use mathlib.Core.List.{List}
 use mathlib.Core.Path.{_≡_, refl, sym, _∙_, ap}
-use native.Mathlib.Nat.{add-assoc, zero-add, add-zero}
+use native.Mathlib.Nat.{add-assoc, zero-add}
 use native.Mathlib.Omega.{arith}
 use Rattle.std.specs.declared.option.Option.{Option}
 use Rattle.std.specs.declared.option.Option.the-variants.{Some, None}
@@ -10,14 +10,13 @@ use Rattle.std.specs.declared.result.Result.{Result}
 use Rattle.std.specs.declared.result.Result.the-variants.{Ok, Err}
 use Rattle.code.specs.declared.reading.Reading.{Reading}
 use Rattle.machine.specs.Access.{sight}
-use Rattle.machine.specs.Laws.{Split, followed, later, unless}
+use Rattle.machine.specs.Laws.{Split, later, unless}
 use Rattle.machine.specs.Step.{into, stepped}
 use Rattle.machine.specs.Turn.{Run, run}
 use Rattle.machine.specs.declared.bay.Bay.{Bay}
 use Rattle.machine.specs.declared.effect.Effect.{Effect}
 use Rattle.machine.specs.declared.registers.Registers.{Registers}
 use Rattle.machine.specs.declared.stop.Stop.{Stop}
-use Rattle.machine.specs.declared.turning.Turned.{Turned}
 
 -- by how one step came out
 abbrev from : (Registers → List ℕ → Run) → ℕ → Registers → List ℕ → Result Effect Stop → Run

@@ -3,7 +3,7 @@ use Prim.Native.Nat.{ℕ, zero, suc, _+_, _-_, _<_}
 use mathlib.Core.List.{List}
 use mathlib.Core.Path.{_≡_}
 use native.Mathlib.Omega.{arith}
-use Rattle.std.specs.declared.option.Option.the-variants.{Some, None}
+use Rattle.std.specs.declared.option.Option.the-variants.{Some}
 use Rattle.std.specs.declared.result.Result.{Result}
 use Rattle.std.specs.declared.result.Result.the-variants.{Ok, Err}
 use Rattle.code.specs.declared.reading.Reading.{Reading}
@@ -14,7 +14,6 @@ use Rattle.machine.specs.declared.bay.Bay.{Bay}
 use Rattle.machine.specs.declared.effect.Effect.{Effect}
 use Rattle.machine.specs.declared.registers.Registers.{Registers}
 use Rattle.machine.specs.declared.stop.Stop.{Stop}
-use Rattle.machine.specs.declared.turning.Turned.{Turned}
 
 module _ (k : ℕ) (r r′ : Registers) (bs bs′ : List ℕ) where
   stop-case : (o : Result Effect Stop) (f : Effect → Run) (t : Stop) → Err t ≡ answer o → r′ ≡ registers-after r o → bs′ ≡ bytes-after bs o → _≡_ {A = Run} (elim o [ Ok e ↦ f e | Err u ↦ record { registers = r; bytes = bs; turned = record { steps = k; stop = Some u } } ]) (record { registers = r′; bytes = bs′; turned = record { steps = k; stop = Some t } })

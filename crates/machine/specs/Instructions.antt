@@ -2,7 +2,7 @@
 use Prim.Native.Nat.{ℕ, _+_, _-_, _%_}
 use lib.Bits.{bitAnd}
 use lib.Dec.{eqb, leb, ltb}
-use mathlib.Core.Bool.{Bool, true, false, cond, not, _&&_, _||_}
+use mathlib.Core.Bool.{Bool, true, false, cond, not, _||_}
 use mir.Syntax.{w16, w32}
 use Rattle.code.specs.declared.name.Name.{Name}
 use Rattle.code.specs.declared.name.Name.the-variants.{Ldb, Ld, Ldw, Ldx, Stb, St, Stw, Stx, Ad, Adw, Sb, Sbw, Adx, Sbx, Cp, Cpw, Cpx, Nw, Nx, Mx, Dx, Ldy, Sty, Ady, Sby, Ldz, Stz, Adz, Sbz, Bi, Bli, Ldl, Adl, Sbl, Cpl, Nl, Ml, Bitx, Bz, Bnz, Bn, Bnn, Bca, Bof, B, Bl, Mbs, Cpbs, Trbs, Scbs, Mhs, Rk, Hrk, Sfn, Sim, Sfm, Bitl}
@@ -14,7 +14,7 @@ use Rattle.machine.specs.Access.{byte, full, half, sight}
 use Rattle.machine.specs.Act.{Act, done, store, fail, perform, _>>=_}
 use Rattle.machine.specs.Address.{formed, operand}
 use Rattle.machine.specs.Bits.{controlled}
-use Rattle.machine.specs.Registers.{computed-a, computed-x, divided, jumped, linked, loaded-a, loaded-x, marked, minus, plus, raised, with-a, with-fm, with-nz, with-of, with-s, with-y, with-z}
+use Rattle.machine.specs.Registers.{computed-a, computed-x, divided, jumped, linked, loaded-a, loaded-x, marked, minus, plus, raised, with-fm, with-nz, with-of, with-s, with-y, with-z}
 use Rattle.machine.specs.Strings.{compared, moved-byte, moved-half, scanned, string, translated}
 use Rattle.machine.specs.declared.bay.Bay.{Bay}
 use Rattle.machine.specs.declared.effect.Effect.{Effect}

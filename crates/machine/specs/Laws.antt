@@ -18,17 +18,15 @@ use Rattle.code.specs.declared.reading.Reading.the-variants.{Defined}
 use Rattle.word.specs.Bytes as bytes
 use lib.IntN.{pos}
 use Rattle.machine.specs.Act.{Act, done, fail, pending, store, _>>=_}
-use Rattle.machine.specs.Plan.{Plan, fetch, obey}
+use Rattle.machine.specs.Plan.{fetch, obey}
 use Rattle.machine.specs.Registers.{advanced}
-use Rattle.machine.specs.Step.{bytes-after, into, planned, stepped}
+use Rattle.machine.specs.Step.{into, planned, stepped}
 use Rattle.machine.specs.Strings.{byte-at, complete, half-at, nearer}
 use Rattle.machine.specs.Turn.{Run, run}
 use Rattle.machine.specs.declared.bay.Bay.{Bay}
 use Rattle.machine.specs.declared.registers.Registers.{Registers}
 use Rattle.machine.specs.declared.stop.Access.the-variants.{Read, Write}
-use Rattle.machine.specs.declared.stop.Cause.{Cause}
 use Rattle.machine.specs.declared.stop.Stop.{Stop}
-use Rattle.machine.specs.declared.turning.Turned.{Turned}
 
 -- a stop alters nothing
 abbrev pub Unaltered : Result (Unit {0}) Stop → Registers → Registers → List ℕ → List ℕ → Type 0

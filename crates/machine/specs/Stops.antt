@@ -7,7 +7,6 @@ use Rattle.std.specs.declared.result.Result.the-variants.{Ok, Err}
 use Rattle.machine.specs.declared.stop.Access.{Access}
 use Rattle.machine.specs.declared.stop.Cause.{Cause}
 use Rattle.machine.specs.declared.stop.Cause.the-variants.{Undefined, Denied, Halt, Floating, NoPattern}
-use Rattle.machine.specs.declared.stop.Denial.{Denial}
 use Rattle.machine.specs.declared.stop.Place.{Place}
 use Rattle.machine.specs.declared.stop.Place.the-variants.{Fetch, Pointer, Operand}
 use Rattle.machine.specs.declared.stop.Stop.{Stop}

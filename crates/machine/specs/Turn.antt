@@ -2,13 +2,11 @@
 use Prim.Native.Nat.{ℕ, zero, suc, _+_}
 use mathlib.Core.List.{List}
 use Rattle.std.specs.declared.option.Option.the-variants.{Some, None}
-use Rattle.std.specs.declared.result.Result.{Result}
 use Rattle.std.specs.declared.result.Result.the-variants.{Ok, Err}
 use Rattle.code.specs.declared.reading.Reading.{Reading}
 use Rattle.machine.specs.Access.{sight}
 use Rattle.machine.specs.Step.{into, stepped}
 use Rattle.machine.specs.declared.bay.Bay.{Bay}
-use Rattle.machine.specs.declared.effect.Effect.{Effect}
 use Rattle.machine.specs.declared.registers.Registers.{Registers}
 use Rattle.machine.specs.declared.stop.Stop.{Stop}
 use Rattle.machine.specs.declared.turning.Turned.{Turned}

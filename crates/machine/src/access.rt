@@ -1,6 +1,5 @@
-ghost use Prim.Native.Nat.{ℕ, _+_, _-_, _*_, _%_, _<_};
-ghost use Rattle.machine.specs.Access.{allows, byte, checked, full, full-at, granted, half, half-at, half-may, item-may, item-read, permits, seen, within};
-ghost use Rattle.machine.specs.declared.stop.Access.the-variants.{Read, Write};
+ghost use Rattle.machine.specs.Access.{byte, checked, full, granted, half, half-at, half-may, item-may, item-read, permits, seen, within};
+ghost use Rattle.machine.specs.declared.stop.Access.the-variants.{Write};
 ghost use mathlib.Core.Path.{_≡_};
 use crate::bay::Bay;
 use crate::bay::Grant;

@@ -1,4 +1,3 @@
-ghost use Prim.Native.Nat.{ℕ, _+_, _-_, _*_, _%_, _<_};
 ghost use Rattle.machine.specs.Access.{byte, full, half, sight};
 ghost use Rattle.machine.specs.Address.{base, far-base, formed, indirect, operand};
 ghost use Rattle.machine.specs.Plan.{obey, placed};

@@ -1,4 +1,4 @@
-ghost use Prim.Native.Nat.{ℕ, _+_, _-_, _*_, _/_, _%_, _<_};
+ghost use Prim.Native.Nat.{_<_};
 ghost use Rattle.machine.specs.Access.{Sight};
 ghost use Rattle.machine.specs.Act.{perform};
 ghost use Rattle.machine.specs.Bits.{altered, bit-done, controlled, ends-zero, mask, operation};

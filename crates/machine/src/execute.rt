@@ -1,4 +1,4 @@
-ghost use Prim.Native.Nat.{ℕ, _+_, _-_, _*_, _%_, _<_};
+ghost use Prim.Native.Nat.{_+_, _%_};
 ghost use Rattle.code.specs.declared.name.Name.the-variants.{Cpbs, Mbs, Mhs, Scbs, Trbs};
 ghost use Rattle.machine.specs.Instructions.{branched, branched-on-overflow, does};
 ghost use mathlib.Core.Path.{_≡_};

@@ -1,5 +1,4 @@
-ghost use Prim.Native.Nat.{ℕ, _+_, _*_, _%_};
-ghost use Rattle.machine.specs.Registers.{advanced, computed-a, computed-x, divided, jumped, linked, loaded-a, loaded-x, marked, raised};
+ghost use Rattle.machine.specs.Registers.{advanced, computed-a, computed-x, divided, jumped, linked, loaded-a, loaded-x, marked};
 ghost use mathlib.Core.Path.{_≡_};
 use word::arithmetic::Outcome;
 

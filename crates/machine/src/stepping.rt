@@ -1,4 +1,3 @@
-ghost use Prim.Native.Nat.{ℕ, _+_, _-_, _*_, _/_, _%_, _<_};
 ghost use Rattle.book.specs.Readings.{reading};
 ghost use Rattle.machine.specs.Access.{sight};
 ghost use Rattle.machine.specs.Act.{perform};

@@ -1,5 +1,4 @@
 ghost use Rattle.code.specs.declared.name.Name.the-variants.{Stb, St, Stw, Stx, Sty, Stz};
-ghost use Prim.Native.Nat.{ℕ, _-_, _%_};
 ghost use Rattle.machine.specs.Instructions.{does, half-stored, stored-byte, stored-full, stored-half, stored-x};
 ghost use Rattle.machine.specs.Access.{sight};
 ghost use Rattle.machine.specs.Act.{perform};

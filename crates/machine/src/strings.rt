@@ -1,4 +1,3 @@
-ghost use Prim.Native.Nat.{ℕ, _+_, _-_, _*_, _%_, _<_};
 ghost use Rattle.machine.specs.Access.{sight};
 ghost use Rattle.machine.specs.Act.{perform};
 ghost use Rattle.machine.specs.Strings.{complete, compared, judged, moved-byte, moved-half, nearer, passed, scanned, translated};

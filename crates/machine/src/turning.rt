@@ -1,4 +1,3 @@
-ghost use Prim.Native.Nat.{ℕ, _+_, _-_, _*_, _%_, _<_};
 ghost use Rattle.book.specs.Readings.{reading};
 ghost use Rattle.machine.specs.Laws.{Moves-bytes, Moves-halfwords, Split};
 ghost use Rattle.machine.specs.Turn.{Run, all-spent, run, stopped-after};

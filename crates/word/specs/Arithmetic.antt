@@ -5,7 +5,7 @@ use lib.Dec.{eqb, leb, ltb}
 use lib.IntN.{ℤ, pos, negsuc, _+ℤ_, _-ℤ_, _*ℤ_}
 use lib.Signed.{ltZ, quotZ}
 use mathlib.Core.Bool.{Bool, cond, not, _&&_, _||_}
-use mir.Syntax.{Width, w16, w32}
+use mir.Syntax.{Width, w16}
 use mir.Val.{toZ, ofZ, bits, hbits}
 use Rattle.std.specs.declared.option.Option.{Option}
 use Rattle.std.specs.declared.option.Option.the-variants.{Some, None}

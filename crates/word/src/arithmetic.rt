@@ -1,10 +1,9 @@
-ghost use Prim.Native.Nat.{ℕ, _+_, _-_, _*_, _%_, _^_, _<_};
 ghost use Rattle.word.specs.Arithmetic.{told, cut, sum, difference, product, quotient, rounded, divides};
-ghost use lib.IntN.{ℤ, pos, _+ℤ_, _-ℤ_, _*ℤ_};
+ghost use lib.IntN.{ℤ, _+ℤ_, _-ℤ_, _*ℤ_};
 ghost use mathlib.Core.Bool.{true};
 ghost use mathlib.Core.Path.{_≡_};
 ghost use mir.Syntax.{w16, w32};
-ghost use mir.Val.{toZ, ofZ};
+ghost use mir.Val.{toZ};
 
 // What a register computes: the apparent result, which is the true one cut to the register,
 // and what the markers are told of both.

@@ -1,4 +1,3 @@
-ghost use Prim.Native.Nat.{ℕ, _+_, _*_, _/_, _%_};
 ghost use Rattle.word.specs.Bytes.{half, full, extended};
 ghost use mathlib.Core.Path.{_≡_};
 

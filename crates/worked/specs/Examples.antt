@@ -6,14 +6,14 @@ use mathlib.Core.Bool.{true, false}
 use mathlib.Core.List.{List, [], _∷_}
 use Rattle.std.specs.declared.option.Option.the-variants.{Some, None}
 use Rattle.std.specs.declared.result.Result.{Result}
-use Rattle.std.specs.declared.result.Result.the-variants.{Ok, Err}
+use Rattle.std.specs.declared.result.Result.the-variants.{Ok}
 use Rattle.book.specs.Read.{new-tables}
 use Rattle.book.specs.Readings.{reading}
 use Rattle.book.specs.declared.tables.Tables.{Tables}
 use Rattle.code.specs.declared.format.Format.the-variants.{A1, A2, A4, L}
 use Rattle.code.specs.declared.format.Format.the-variants as format
 use Rattle.code.specs.declared.name.Name.{Name}
-use Rattle.code.specs.declared.name.Name.the-variants.{Adx, Bitl, Dx, Ld, Mbs, Ml}
+use Rattle.code.specs.declared.name.Name.the-variants.{Adx, Bitl, Dx, Ld, Ml}
 use Rattle.code.specs.declared.name.Name.the-variants as name
 use Rattle.code.specs.declared.reading.Reading.{Reading}
 use Rattle.code.specs.declared.reading.Reading.the-variants.{Defined}

@@ -1,6 +1,4 @@
-use mathlib.Core.List.{List}
-use mathlib.Core.Path.{_≡_, sym, ap, subst}
-use Prim.Native.Nat.{ℕ}
+use mathlib.Core.Path.{sym, ap, subst}
 use Rattle.book.specs.Readings.{reading}
 use Rattle.machine.proofs.Frame.{step-writes}
 use Rattle.machine.proofs.Local.{local}
