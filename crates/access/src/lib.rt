@@ -1,4 +1,6 @@
 // Which bytes a program may reach: its grants, items read and claimed byte by byte, and the stop that a refusal makes.
+#![tactic(auto)]
+
 mod access;
 mod bay;
 mod show;

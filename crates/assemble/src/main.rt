@@ -1,18 +1,20 @@
 // Makes a store image of a listing: assemble BOOK LISTING IMAGE
+#![tactic(auto)]
+
 mod failure;
 mod files;
 mod print;
 mod work;
 
-use failure::Failure;
+use std::process::ExitCode;
 use work::assemble;
 
-fn main(rt: HostRuntime) -> Result<(), Failure> {
+fn main(rt: HostRuntime) -> ExitCode {
     match assemble(&rt) {
-        Ok(()) => Ok(()),
-        Err(failure) => {
-            let _ = eprintln!(rt; "assemble: {failure}");
-            Err(failure)
+        Ok(()) => ExitCode::SUCCESS,
+        Err(e) => {
+            let _ = eprintln!(rt; "assemble: {e}");
+            ExitCode::FAILURE
         }
     }
 }

@@ -1,6 +1,5 @@
 -- The bays by their numbers.
-use Rattle.std.specs.Prelude.{ℕ, zero, suc, Bool, false, cond, ◌||◌, List, [], ◌∷◌, replicate, Some, None, Option, slice_index_or, slice_set}
-use Rattle.access.specs.declared.bay.Bay.{Bay}
+use Rattle.std.specs.Prelude.{ℕ, zero, suc, Bool, false, cond, ◌||◌, List, [], ◌∷◌, replicate, None, Option, slice_index_or, slice_set}
 use Rattle.access.specs.declared.bay.Grant.{Grant}
 use Rattle.machine.specs.declared.registers.Registers.{Registers}
 use Rattle.bays.specs.Grants.{clashes_any, writes}

@@ -1,5 +1,5 @@
 -- Grants: which bytes they have, when two clash, and the places for six.
-use Rattle.std.specs.Prelude.{ℕ, zero, suc, Bool, true, false, not, ◌&&◌, ◌||◌, List, [], ◌∷◌, length, Some, None, Option, nat_le, nat_lt, slice_set}
+use Rattle.std.specs.Prelude.{ℕ, suc, Bool, true, false, not, ◌&&◌, ◌||◌, List, [], ◌∷◌, length, Some, None, Option, nat_le, nat_lt, slice_set}
 use Rattle.access.specs.Access.{granted}
 use Rattle.access.specs.declared.bay.Grant.{Grant}
 use Rattle.access.specs.declared.bay.Kind.{Kind}

@@ -1,4 +1,6 @@
 // The eight bays of a hall: what is kept of each, and how grants clash.
+#![tactic(auto)]
+
 mod grants;
 mod record;
 mod refusal;

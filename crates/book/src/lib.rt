@@ -1,3 +1,5 @@
+#![tactic(auto)]
+
 mod add;
 mod book;
 mod fields;

@@ -49,7 +49,7 @@ fn registers_of(words: &mut Words) -> Option<Registers> {
 
 fn bay_of(word: &[u8]) -> Option<Bay> {
     let mut bay = Bay { grants: [None; 6] };
-    if word == b"-" {
+    if word == b"-".as_slice() {
         return Some(bay);
     }
     let mut grants = Words::new(word, b',');
@@ -76,7 +76,7 @@ fn put_bytes(image: &mut Vec<u8>, address: usize, hex: &[u8]) -> Option<()> {
 
 // The bytes of a case into an image that is zero elsewhere.
 fn fill(image: &mut Vec<u8>, word: &[u8]) -> Option<()> {
-    if word == b"-" {
+    if word == b"-".as_slice() {
         return Some(());
     }
     let mut parts = Words::new(word, b',');
@@ -165,7 +165,7 @@ fn book_case(rt: &HostRuntime, words: &mut Words) -> anyhow::Result<bool> {
         return Ok(false);
     };
     let mut text = Vec::new(rt.alloc());
-    if hex != b"-" {
+    if hex != b"-".as_slice() {
         for pair in hex.chunks(2) {
             let Some(byte) = hex_byte(pair) else {
                 return Ok(false);

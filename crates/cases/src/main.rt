@@ -1,4 +1,6 @@
 // Answers a table of cases, one line each: cases BOOK < CASES
+#![tactic(auto)]
+
 mod answer;
 mod words;
 

@@ -1,3 +1,5 @@
+#![tactic(auto)]
+
 mod format;
 mod formats;
 mod name;

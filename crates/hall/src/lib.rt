@@ -1,4 +1,6 @@
 // The hall: one store and one book that up to eight programs share, each in a bay of its own.
+#![tactic(auto)]
+
 mod calls;
 mod hall;
 mod handle;

@@ -1,9 +1,9 @@
 -- Tests, lists and grants.
-use Rattle.std.proofs.Common.{◌≡◌, ℕ, zero, suc, ◌+◌, ◌%◌, ◌<◌, ◌≤◌, Bool, true, false, cond, not, ◌&&◌, ◌||◌, T, ltb, leb, ◌≢◌, ◌⊎◌, List, [], ◌∷◌, length, get_or, set, Some, None, Option, sym, refl, ap, ◌∙◌, subst, inl, inr, add-zero, add-suc, mod-eq_of_lt, suc-add, zero-add, arith, le→leb, ltb→lt, leb→le, length-set}
+use Rattle.std.proofs.Common.{◌≡◌, ℕ, zero, suc, ◌+◌, ◌%◌, ◌<◌, ◌≤◌, Bool, true, false, cond, not, ◌&&◌, ◌||◌, T, leb, ◌≢◌, ◌⊎◌, List, [], ◌∷◌, length, get_or, set, Some, None, Option, sym, refl, ap, ◌∙◌, subst, inl, inr, add-zero, add-suc, mod-eq_of_lt, suc-add, zero-add, arith, le→leb, ltb→lt, leb→le, length-set}
 use Rattle.access.specs.declared.bay.Grant.{Grant}
 use Rattle.bays.specs.declared.record.BayRecord.{BayRecord}
 use Rattle.bays.specs.Bays.{bay_at, clash, free, wiped}
-use Rattle.bays.specs.Grants.{added, both_read, clashes, clashes_any, has, reads, room, shares, vacant, writes}
+use Rattle.bays.specs.Grants.{added, both_read, clashes, clashes_any, has, reads, room, vacant, writes}
 use Rattle.access.specs.Access.{allows, allows_all, covers, granted, permits, within}
 use Rattle.access.specs.declared.bay.Bay.{Bay}
 use Rattle.access.specs.declared.bay.Kind.{Kind}

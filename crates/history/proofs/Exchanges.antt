@@ -1,6 +1,6 @@
 -- A rearrangement leaves every bay its own history.
-use Rattle.std.proofs.Common.{◌≡◌, ℕ, Bool, true, false, cond, T, eqb, ◌≢◌, List, ◌∷◌, sym, refl, ap, ◌∙◌, eqb→eq}
-use Rattle.history.specs.Calls.{Call, own}
+use Rattle.std.proofs.Common.{◌≡◌, ℕ, Bool, true, false, cond, T, eqb, List, ◌∷◌, sym, refl, ap, ◌∙◌, eqb→eq}
+use Rattle.history.specs.Calls.{Call}
 use Rattle.history.specs.History.{Exchanged, exchange, keep, keeps, same, struck, twice}
 
 crossed : (c d : Call) (m : List Call) (x y : Bool) → (T x → T y → ⊥)

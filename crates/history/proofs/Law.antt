@@ -1,5 +1,5 @@
 -- The three laws.
-use Rattle.std.proofs.Common.{◌≡◌, ℕ, zero, suc, ◌||◌, T, ◌≢◌, ◌⊎◌, List, [], ◌∷◌, length, get_or, replicate, Some, None, Option, sym, refl, ap, ◌∙◌, subst, inl, inr, ext_get_or}
+use Rattle.std.proofs.Common.{◌≡◌, ℕ, zero, suc, T, ◌⊎◌, List, [], ◌∷◌, length, get_or, replicate, Some, None, Option, sym, refl, ap, ◌∙◌, subst, inl, inr, ext_get_or}
 use mathlib.Core.Path.{subst⁻¹}
 use Rattle.bays.specs.declared.record.BayRecord.{BayRecord}
 use Rattle.book.specs.declared.book.Book.{Book}

@@ -1,10 +1,10 @@
 -- Load, set, turn, look and copy depend on the bytes only where a grant of the bay allows to read, and alter only where one allows to write.
-use Rattle.std.proofs.Common.{◌≡◌, ℕ, zero, suc, ◌+◌, ◌/◌, ◌%◌, ◌≤◌, Bool, true, false, cond, ◌&&◌, T, List, length, get_or, set, Some, None, Ok, Err, Option, Result, sym, refl, ap, ◌∙◌, subst, length-set}
+use Rattle.std.proofs.Common.{◌≡◌, ℕ, zero, suc, ◌+◌, ◌/◌, ◌%◌, Bool, true, false, cond, ◌&&◌, T, List, length, get_or, set, Some, None, Ok, Err, Option, Result, sym, refl, ap, ◌∙◌, subst, length-set}
 use Rattle.code.specs.declared.reading.Reading.{Reading}
 use Rattle.book.specs.Readings.{reading}
 use Rattle.book.specs.declared.book.Book.{Book}
 use Rattle.store.specs.Bulk.{taken, written}
-use Rattle.access.specs.Access.{allows, allows_all, sight, within}
+use Rattle.access.specs.Access.{allows, sight, within}
 use Rattle.turns.specs.Laws.{among, target}
 use Rattle.turns.specs.Step.{bytes_after, half_into, into, planned, stepped}
 use Rattle.turns.specs.Turn.{Run, run}

@@ -1,5 +1,5 @@
 -- Whole histories.
-use Rattle.std.proofs.Common.{◌≡◌, ℕ, Bool, true, false, cond, not, ◌||◌, T, eqb, ◌≢◌, ◌⊎◌, List, [], ◌∷◌, refl, ◌∙◌, subst, T_not}
+use Rattle.std.proofs.Common.{◌≡◌, ℕ, Bool, true, false, cond, not, T, eqb, ◌≢◌, List, [], ◌∷◌, refl, subst, T_not}
 use lib.Dec.{eqb_refl}
 use Rattle.bays.specs.declared.stage.Stage.{Stage}
 use Rattle.history.proofs.Ever.{grants_at, ever_reads}

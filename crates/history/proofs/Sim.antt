@@ -1,5 +1,5 @@
 -- Two halls that the bay w cannot tell apart, and one call in one of them or in both.
-use Rattle.std.proofs.Common.{◌≡◌, ℕ, Bool, true, false, cond, T, eqb, ◌≢◌, ◌⊎◌, List, ◌∷◌, length, get_or, Some, None, Option, sym, refl, ap, ◌∙◌, subst, inl, inr, eqb→eq}
+use Rattle.std.proofs.Common.{◌≡◌, ℕ, Bool, true, false, cond, T, ◌≢◌, ◌⊎◌, List, length, get_or, Some, None, Option, sym, refl, ap, ◌∙◌, subst, inl, inr, eqb→eq}
 use mathlib.Core.Path.{subst⁻¹}
 use Rattle.access.specs.declared.bay.Bay.{Bay}
 use Rattle.bays.specs.declared.record.BayRecord.{BayRecord}

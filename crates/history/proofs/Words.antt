@@ -1,5 +1,5 @@
 -- The ledger covers what the accepted calls say.
-use Rattle.std.proofs.Common.{◌≡◌, ℕ, zero, suc, Bool, true, false, not, ◌&&◌, ◌||◌, T, eqb, leb, ◌≢◌, ◌⊎◌, List, [], ◌∷◌, get_or, set, replicate, Some, None, Option, refl, ◌∙◌, subst, inl, inr, eqb→eq}
+use Rattle.std.proofs.Common.{◌≡◌, ℕ, zero, suc, Bool, true, not, ◌&&◌, ◌||◌, T, eqb, leb, ◌⊎◌, List, [], ◌∷◌, get_or, set, replicate, Some, None, Option, refl, subst, inl, inr, eqb→eq}
 use mathlib.Core.Path.{subst⁻¹}
 use lib.Dec.{not_T, eqb_refl}
 use Rattle.access.specs.declared.bay.Grant.{Grant}
@@ -14,12 +14,11 @@ use Rattle.history.proofs.Ledger.{passed}
 use Rattle.history.proofs.Ever.{grants_at, stage_at, ever_reads, ever_writes}
 use Rattle.access.specs.declared.stop.Access.TheVariants.{Read, Write}
 use Rattle.bays.specs.Bays.{bay_at, free, put_bay}
-use Rattle.bays.specs.Grants.{added, has, reads, room, writes}
+use Rattle.bays.specs.Grants.{added, reads, room, writes}
 use Rattle.bays.specs.Stages.{at_stage}
 use Rattle.history.specs.Calls.{Act, Call, Shared, close, grant, open_bay, own, seal, shared}
 use Rattle.history.specs.Hall.{Hall, Told, apply, apply_act, bay_after, outcome, program_of, settle, stage_for, verdict}
 use Rattle.history.specs.History.{accepted, after, granted as granted-to, granted_write, grants_byte, grants_write, is_close, not_refused, under_write}
-use Rattle.access.specs.Access.{covers, granted}
 
 -- a bay that is not free has its place in the list
 here_set : (s : Stage) (d : BayRecord) (l : List BayRecord) (k : ℕ) → T (at_stage s (get_or l k free).stage) → get_or (set l k d) k free ≡ d

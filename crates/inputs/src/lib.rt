@@ -1,4 +1,6 @@
 // The files that the programs read; one that is not right gets one line that says what is wrong and where.
+#![tactic(auto)]
+
 use anyhow::anyhow;
 use book::Book;
 use job::{Job, read_job};

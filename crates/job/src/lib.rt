@@ -1,4 +1,6 @@
 // A job: which program a bay runs, from which registers, over which records.
+#![tactic(auto)]
+
 mod area;
 mod draft;
 mod fault;

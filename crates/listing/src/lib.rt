@@ -1,4 +1,6 @@
 // A listing: text that says which halfwords lie at which addresses of a store.
+#![tactic(auto)]
+
 mod assemble;
 mod entry;
 mod fault;
@@ -7,7 +9,7 @@ mod listing;
 mod next;
 mod number;
 mod placed;
-mod word;
+mod tokens;
 
 pub use assemble::assemble_into;
 pub use fault::{Fault, Refused};

@@ -5,7 +5,7 @@ ghost use Rattle.listing.specs.Line.{instruction, word_line, shown, content_of, 
 use crate::entry::{Content, Entry};
 use crate::fault::Fault;
 use crate::number::{address, hex_word, signed};
-use crate::word::{before_comment, next_word, one_word, three_words};
+use crate::tokens::{before_comment, next_word, one_word, three_words};
 use book::Book;
 use code::{format_of, name_of};
 use text::same_text;

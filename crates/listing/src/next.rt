@@ -9,7 +9,7 @@ use crate::line::read_line;
 use crate::listing::Listing;
 use crate::number::half;
 use crate::placed::Placed;
-use crate::word::next_word;
+use crate::tokens::next_word;
 use book::Book;
 use text::{Line, Lines};
 

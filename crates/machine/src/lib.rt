@@ -1,4 +1,6 @@
 // Registers and markers, the address of an operand, and what each instruction does.
+#![tactic(auto)]
+
 mod address;
 mod bits;
 mod effect;

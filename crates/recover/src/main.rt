@@ -1,16 +1,19 @@
 // Runs a shore program over a file of records: recover BOOK IMAGE JOB
+#![tactic(auto)]
+
 mod names;
 mod report;
 mod work;
 
+use std::process::ExitCode;
 use work::recover;
 
-fn main(rt: HostRuntime) -> anyhow::Result<()> {
+fn main(rt: HostRuntime) -> ExitCode {
     match recover(&rt) {
-        Ok(()) => Ok(()),
+        Ok(()) => ExitCode::SUCCESS,
         Err(e) => {
-            eprintln!(rt; "recover: {e}")?;
-            Err(e)
+            let _ = eprintln!(rt; "recover: {e}");
+            ExitCode::FAILURE
         }
     }
 }

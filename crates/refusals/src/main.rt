@@ -1,4 +1,6 @@
 // Prints the answers to listings and jobs that are refused, each fault at least once.
+#![tactic(auto)]
+
 mod jobs;
 mod listings;
 

@@ -1,4 +1,6 @@
 // A store means 65,536 bytes, at the addresses 0 to 65,535.
+#![tactic(auto)]
+
 mod bulk;
 mod check;
 mod owned;

@@ -1,3 +1,5 @@
+#![tactic(auto)]
+
 mod line;
 mod lines;
 mod next;

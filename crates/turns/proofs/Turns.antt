@@ -1,5 +1,5 @@
 -- The first step of a turn.
-use Rattle.std.proofs.Common.{◌≡◌, ℕ, zero, suc, ◌+◌, ◌-◌, ◌<◌, List, Some, Ok, Err, Result, arith}
+use Rattle.std.proofs.Common.{◌≡◌, ℕ, zero, suc, ◌+◌, ◌<◌, List, Some, Ok, Err, Result, arith}
 use Rattle.code.specs.declared.reading.Reading.{Reading}
 use Rattle.access.specs.Access.{sight}
 use Rattle.access.specs.declared.bay.Bay.{Bay}

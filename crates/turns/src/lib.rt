@@ -1,4 +1,6 @@
 // One step under a book, and a turn of steps.
+#![tactic(auto)]
+
 mod stepping;
 mod turning;
 

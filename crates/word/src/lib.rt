@@ -1,4 +1,6 @@
 // Halfwords of 16 bits and fullwords of 32: how bytes make them, how a word is parted into fields, and how a register computes.
+#![tactic(auto)]
+
 pub mod arithmetic;
 pub mod bytes;
 mod fields;

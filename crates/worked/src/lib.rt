@@ -1,4 +1,6 @@
 // The worked examples of docs/machine.md, proved of the rules.
+#![tactic(auto)]
+
 ghost use Rattle.worked.specs.Examples.{answers, examples};
 ghost use Rattle.std.specs.Prelude.{◌≡◌, length};
 

@@ -8,5 +8,5 @@ loop-p-preserved c = grind (arith, every_more)
 pub returns : goal.returns
 returns c = grind (arith, every_all)
 
-pub returns-then-is-none : goal.returns-then-is-none
-returns-then-is-none c = grind (arith, every_more)
+pub returns-then-is_none : goal.returns-then-is_none
+returns-then-is_none c = grind (arith, every_more)

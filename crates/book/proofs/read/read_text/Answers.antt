@@ -29,21 +29,21 @@ returns-else-complete c =
     let e = ap {B = Read} (λ b. cond b (Ok t) (Err (15, n))) c.if-complete.ensures in
     e ∙ sym (ends (left c.lines.lines) n t c.in-End.ensures.answer) ∙ c.lines.invariant
 
-pub returns-in-default : goal.returns-in-default
+pub returns-in_default : goal.returns-in_default
 unfolding read_rule
-returns-in-default c = sym (malformed (left c.lines.lines) c.in-Text.s.now c.lines.lines.line c.lines.tables c.in-Text.ensures.answer c.in-default.ensures) ∙ c.lines.invariant
+returns-in_default c = sym (malformed (left c.lines.lines) c.in-Text.s.now c.lines.lines.line c.lines.tables c.in-Text.ensures.answer c.in_default.ensures) ∙ c.lines.invariant
 
 pub lines-smaller : goal.lines-smaller
 lines-smaller c =
     let s : Bytes = left c.lines.lines in
     let h : length (rest_of s) < length s = shorter s c.in-Text.s.now c.in-Text.ensures.answer in
-    let e : length (left c.next-line.new.self) ≡ length (rest_of s) = ap length c.in-Text.ensures.rest in
+    let e : length (left c.next_line.new.self) ≡ length (rest_of s) = ap length c.in-Text.ensures.rest in
     omega arith
 
 pub lines-preserved : goal.lines-preserved
 lines-preserved c =
     let f : Three = (c.in-Some.f.letter.now, c.in-Some.f.name.now, c.in-Some.f.value.now) in
-    goes_on (left c.lines.lines) (left c.next-line.new.self) c.in-Text.s.now c.lines.lines.line c.next-line.new.self.line c.lines.tables c.in-Ok.t f c.in-Text.ensures.answer c.in-Text.ensures.rest c.in-Text.ensures.number c.in-Some.ensures c.in-Ok.ensures ∙ c.lines.invariant
+    goes_on (left c.lines.lines) (left c.next_line.new.self) c.in-Text.s.now c.lines.lines.line c.next_line.new.self.line c.lines.tables c.in-Ok.t f c.in-Text.ensures.answer c.in-Text.ensures.rest c.in-Text.ensures.number c.in-Some.ensures c.in-Ok.ensures ∙ c.lines.invariant
 
 pub returns-in-Err : goal.returns-in-Err
 unfolding read_rule

@@ -3,4 +3,4 @@ use Rattle.code.proofs.formats.format_of.Goals as goal
 
 pub returns : goal.returns
 unfolding format_of
-returns c = c.find-format.ensures
+returns c = c.find_format.ensures

@@ -3,4 +3,4 @@ use Rattle.code.proofs.names.b_name.Goals as goal
 
 pub returns : goal.returns
 unfolding name_b
-returns c = c.find-name.ensures
+returns c = c.find_name.ensures

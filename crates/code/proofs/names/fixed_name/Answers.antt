@@ -3,4 +3,4 @@ use Rattle.code.proofs.names.fixed_name.Goals as goal
 
 pub returns : goal.returns
 unfolding name_fixed
-returns c = c.find-name.ensures
+returns c = c.find_name.ensures

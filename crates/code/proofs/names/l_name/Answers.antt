@@ -3,4 +3,4 @@ use Rattle.code.proofs.names.l_name.Goals as goal
 
 pub returns : goal.returns
 unfolding name_l
-returns c = c.find-name.ensures
+returns c = c.find_name.ensures

@@ -8,5 +8,5 @@ pub entries-smaller : goal.entries-smaller
 entries-smaller c =
     let s : Bytes = left c.entries.lines in
     let h : length (rest_of s) < length s = shorter s c.in-Text.line.now c.in-Text.ensures.answer in
-    let e : length (left c.next-line.new.self) ≡ length (rest_of s) = ap length c.in-Text.ensures.rest in
+    let e : length (left c.next_line.new.self) ≡ length (rest_of s) = ap length c.in-Text.ensures.rest in
     omega arith

@@ -15,10 +15,10 @@ returns-in-Some g c =
     let bay = c.args.bay.now in
     let r = c.loop-k.registers in
     let bs = g.S.Store.bytes c.loop-k.store in
-    let n : ℕ = c.args.turns - (c.loop-k.-k + 1) in
-    let d : c.args.turns - c.loop-k.-k ≡ suc n = omega arith in
+    let n : ℕ = c.args.turns - (c.loop-k._k + 1) in
+    let d : c.args.turns - c.loop-k._k ≡ suc n = omega arith in
     sym (stops reads bay c.args.budget (n * c.args.budget) r c.turn-turned.new.registers bs (g.S.Store.bytes c.turn-turned.new.store) c.turn-turned.result c.turn-turned.ensures.runs c.loop-k.steps c.in-Some.stop c.in-Some.is)
-    ∙ ap (λ i. later c.loop-k.steps (run reads bay i 0 r bs)) (more c.args.turns c.loop-k.-k c.args.budget n d)
+    ∙ ap (λ i. later c.loop-k.steps (run reads bay i 0 r bs)) (more c.args.turns c.loop-k._k c.args.budget n d)
     ∙ c.loop-k.invariant.0
 
 pub loop-k-preserved : goal.loop-k-preserved
@@ -27,10 +27,10 @@ loop-k-preserved g c =
     let bay = c.args.bay.now in
     let r = c.loop-k.registers in
     let bs = g.S.Store.bytes c.loop-k.store in
-    let n : ℕ = c.args.turns - (c.loop-k.-k + 1) in
-    let d : c.args.turns - c.loop-k.-k ≡ suc n = omega arith in (
-      sym (goes_on reads bay c.args.budget (n * c.args.budget) r c.turn-turned.new.registers bs (g.S.Store.bytes c.turn-turned.new.store) c.turn-turned.result c.turn-turned.ensures.runs c.loop-k.steps c.in-default.is)
-          ∙ ap (λ i. later c.loop-k.steps (run reads bay i 0 r bs)) (more c.args.turns c.loop-k.-k c.args.budget n d)
+    let n : ℕ = c.args.turns - (c.loop-k._k + 1) in
+    let d : c.args.turns - c.loop-k._k ≡ suc n = omega arith in (
+      sym (goes_on reads bay c.args.budget (n * c.args.budget) r c.turn-turned.new.registers bs (g.S.Store.bytes c.turn-turned.new.store) c.turn-turned.result c.turn-turned.ensures.runs c.loop-k.steps c.in_default.is)
+          ∙ ap (λ i. later c.loop-k.steps (run reads bay i 0 r bs)) (more c.args.turns c.loop-k._k c.args.budget n d)
           ∙ c.loop-k.invariant.0,
       omega (arith, c.loop-k.invariant.1),
     )
@@ -41,8 +41,8 @@ returns g c =
     let bay = c.args.bay.now in
     let r = c.loop-k.registers in
     let bs = g.S.Store.bytes c.loop-k.store in
-    let d : c.args.turns - c.loop-k.-k ≡ 0 = omega arith in
-    let z : 0 ≡ (c.args.turns - c.loop-k.-k) * c.args.budget = sym (zero-mul c.args.budget) ∙ ap (λ i. i * c.args.budget) (sym d) in
+    let d : c.args.turns - c.loop-k._k ≡ 0 = omega arith in
+    let z : 0 ≡ (c.args.turns - c.loop-k._k) * c.args.budget = sym (zero-mul c.args.budget) ∙ ap (λ i. i * c.args.budget) (sym d) in
     ap (λ i. record { registers = r; bytes = bs; turned = record { steps = i; stop = _ } }) (sym (add-zero c.loop-k.steps))
     ∙ ap (λ i. later c.loop-k.steps (run reads bay i 0 r bs)) z
     ∙ c.loop-k.invariant.0

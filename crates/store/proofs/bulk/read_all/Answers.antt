@@ -1,4 +1,4 @@
-use Rattle.std.proofs.Common.{◌≡◌, ℕ, suc, ◌+◌, ◌-◌, ◌%◌, List, [], ◌∷◌, length, take, set, sym, ◌∙◌, append_assoc, append-nil, arith, length-set}
+use Rattle.std.proofs.Common.{◌≡◌, ℕ, suc, ◌+◌, ◌-◌, ◌%◌, List, [], ◌∷◌, length, take, append_assoc, append-nil, arith, length-set}
 use Rattle.std.proofs.lemmas.List.{take_all, take_more_set}
 use Rattle.store.specs.Bulk.{taken}
 use Rattle.store.proofs.bulk.read_all.Goals as goal

@@ -2,11 +2,11 @@ use Rattle.std.proofs.Common.{arith}
 use Rattle.text.proofs.Digits.{digits_more, digits_all, digits_past}
 use Rattle.text.proofs.number.decimal.Goals as goal
 
-pub returns-in-default : goal.returns-in-default
-returns-in-default c = record { is = grind (arith, digits_more); within = tt }
+pub returns-in_default : goal.returns-in_default
+returns-in_default c = record { is = grind (arith, digits_more); within = tt }
 
-pub returns-in-default·2 : goal.returns-in-default·2
-returns-in-default·2 c = record { is = grind (arith, digits_more); within = tt }
+pub returns-in_default-2 : goal.returns-in_default-2
+returns-in_default-2 c = record { is = grind (arith, digits_more); within = tt }
 
 pub returns-then-n-high : goal.returns-then-n-high
 returns-then-n-high c = record { is = grind (arith, digits_more, digits_past); within = tt }

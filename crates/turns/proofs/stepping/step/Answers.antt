@@ -9,7 +9,7 @@ use Rattle.turns.proofs.stepping.step.Goals as goal
 
 pub returns : goal.returns
 returns g c =
-    let e = c.obey-next.ensures in
+    let e = c.obey_next.ensures in
     let reads = reading c.args.book.now.tables in
     let bay = c.args.bay.now in
     let r = c.args.registers.now in
@@ -19,7 +19,7 @@ returns g c =
       numbers = ap told_of e.answers;
       registers = e.registers;
       bytes = e.bytes;
-      stop-alters-nothing = unaltered _ _ _ _ _ _ e.answers e.registers e.bytes;
-      writes-its-operand = subst (Only (operand_granted reads bay r bs) bs) (sym e.bytes) (step_writes reads bay bs r);
-      reads-granted-bytes = local;
+      stop_alters_nothing = unaltered _ _ _ _ _ _ e.answers e.registers e.bytes;
+      writes_its_operand = subst (Only (operand_granted reads bay r bs) bs) (sym e.bytes) (step_writes reads bay bs r);
+      reads_granted_bytes = local;
     }

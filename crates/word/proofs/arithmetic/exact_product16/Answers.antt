@@ -5,9 +5,9 @@ use Rattle.word.proofs.arithmetic.exact_product16.Goals as goal
 
 pub returns : goal.returns
 returns c =
-    let f : SFits w16 c.cast-signed.result = search rules in
-    let g : SFits w16 c.cast-signed-2.result = search rules in
-    let f' : SFits w64 c.cast-signed.result = grind (arith, ints) in
-    let g' : SFits w64 c.cast-signed-2.result = grind (arith, ints) in
-    let p : SFits w64 (c.cast-signed.result *ℤ c.cast-signed-2.result) = simp to_z-of_z at (signed_product w64 w16 w16 _ _ f g tt) in
+    let f : SFits w16 c.cast_signed.result = search rules in
+    let g : SFits w16 c.cast_signed-2.result = search rules in
+    let f' : SFits w64 c.cast_signed.result = grind (arith, ints) in
+    let g' : SFits w64 c.cast_signed-2.result = grind (arith, ints) in
+    let p : SFits w64 (c.cast_signed.result *ℤ c.cast_signed-2.result) = simp to_z-of_z at (signed_product w64 w16 w16 _ _ f g tt) in
     simp to_z-of_z (cc)

@@ -6,5 +6,5 @@ pub returns : goal.returns
 unfolding reading
 returns c =
     let b = c.args.self.now in
-    let e = c.read-word.ensures in
-    record { is = e; laid = laid b.tables b.sound c.args.word c.read-word.result e; sole = only b.tables b.sound c.args.word c.read-word.result e; again = backs b.tables b.sound c.args.word c.read-word.result e }
+    let e = c.read_word.ensures in
+    record { is = e; laid = laid b.tables b.sound c.args.word c.read_word.result e; sole = only b.tables b.sound c.args.word c.read_word.result e; again = backs b.tables b.sound c.args.word c.read_word.result e }

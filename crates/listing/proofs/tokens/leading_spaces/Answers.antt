@@ -1,6 +1,6 @@
 use Rattle.std.proofs.Common.{arith}
 use Rattle.listing.proofs.Words.{spaces_more, spaces_all}
-use Rattle.listing.proofs.word.leading_spaces.Goals as goal
+use Rattle.listing.proofs.tokens.leading_spaces.Goals as goal
 
 pub returns-then-x-ne32 : goal.returns-then-x-ne32
 returns-then-x-ne32 c = record { is = grind (arith, spaces_more); within = omega arith }
