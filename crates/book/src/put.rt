@@ -1,6 +1,6 @@
 ghost use Rattle.std.specs.Prelude.{◌≡◌, ◌<◌, ◌≤◌, length, IfSome};
 ghost use Rattle.book.specs.Wholes.{word_of};
-ghost use Rattle.book.specs.Put.{number_in, v_limit, m_limit, d_limit, word_a, pattern_at, put_a, put_b, made_of, put, answered};
+ghost use Rattle.book.specs.Put.{number_in, v_limit, m_limit, d_limit, word_a, pattern_at, made_of, put, answered};
 ghost use Rattle.book.specs.Laws.{Reads};
 
 use crate::book::Book;
@@ -78,7 +78,7 @@ impl Book {
     }
 
     fn put_a(&self, name: Name, format: Format, m: i32, d: i32) -> Result<u16, Unput>
-        ensures { answered result ≡ put_a self.now.tables name format m d }
+        ensures { answered result ≡ Rattle.book.specs.Put.put_a self.now.tables name format m d }
     {
         let Some(number) = number_of(&self.tables.a, name) else {
             return Err(Unput::Unavailable);
@@ -96,7 +96,7 @@ impl Book {
     }
 
     fn put_b(&self, name: Name, m: i32, d: i32) -> Result<u16, Unput>
-        ensures { answered result ≡ put_b self.now.tables name m d }
+        ensures { answered result ≡ Rattle.book.specs.Put.put_b self.now.tables name m d }
     {
         let Some(number) = number_of(&self.tables.b, name) else {
             return Err(Unput::Unavailable);

@@ -1,6 +1,6 @@
 ghost use Rattle.std.specs.Prelude.{◌≡◌};
 ghost use Rattle.code.specs.Spelling.{first};
-ghost use Rattle.code.specs.Names.{spelled, rank, name_a, name_l, name_b, name_fixed, name_of};
+ghost use Rattle.code.specs.Names.{spelled, rank, name_a, name_l, name_b, name_fixed};
 
 use crate::name::Name;
 use text::same_text;
@@ -179,7 +179,7 @@ fn fixed_name(text: &[u8]) -> Option<Name>
 
 // The name that the text spells, of all names.
 pub fn name_of(text: &[u8]) -> Option<Name>
-    ensures { result ≡ name_of text.now }
+    ensures { result ≡ Rattle.code.specs.Names.name_of text.now }
 {
     a_name(text)
         .or(l_name(text))

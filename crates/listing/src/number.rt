@@ -1,11 +1,11 @@
 ghost use Rattle.std.specs.Prelude.{◌≡◌, ◌<◌, IfSome};
-ghost use Rattle.listing.specs.Numbers.{held, after_minus, signed_of, half_of, address_of};
+ghost use Rattle.listing.specs.Numbers.{held, signed_of, half_of, address_of};
 
 use text::decimal;
 
 // What follows a minus sign.
 fn after_minus(s: &[u8]) -> Option<&[u8]>
-    ensures { held result ≡ after_minus s.now }
+    ensures { held result ≡ Rattle.listing.specs.Numbers.after_minus s.now }
 {
     if s.is_empty() || s[0] != b'-' {
         return None;

@@ -1,9 +1,9 @@
 ghost use Rattle.std.specs.Prelude.{◌≡◌, ◌≤◌, IfSome};
-ghost use Rattle.text.specs.Numbers.{no_number, number_of};
+ghost use Rattle.text.specs.Numbers.{number_of};
 
 // No digit at all, or a zero in front of another digit.
 fn no_number(s: &[u8]) -> bool
-    ensures { result ≡ no_number s.now }
+    ensures { result ≡ Rattle.text.specs.Numbers.no_number s.now }
 {
     s.is_empty() || (s[0] == b'0' && s.len() > 1)
 }

@@ -1,7 +1,7 @@
 -- One step: fetch a halfword at s, add 2 to s, and obey what the word reads as.
 use Rattle.std.specs.Prelude.{ℕ, ◌+◌, ◌/◌, ◌%◌, Bool, true, false, cond, ◌&&◌, List, ℤ, Ok, Err, Result, slice_set}
 use Rattle.std.specs.Int.{w16}
-use Rattle.std.proofs.Common.{of_z}
+use mir.Val.{of_z}
 use Rattle.code.specs.declared.format.Format.{Format}
 use Rattle.code.specs.declared.format.Format.TheVariants.{A1, A2, A3, A4, A5, L, B}
 use Rattle.code.specs.declared.name.Name.{Name}

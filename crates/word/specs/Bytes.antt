@@ -1,7 +1,7 @@
 -- Halfwords and fullwords: the most significant byte has the lowest address.
 use Rattle.std.specs.Prelude.{ℕ, ◌+◌, ◌*◌}
 use Rattle.std.specs.Int.{w16, w32}
-use Rattle.std.proofs.Common.{to_z, of_z}
+use mir.Val.{to_z, of_z}
 
 abbrev pub half : ℕ → ℕ → ℕ
 half high low = high * 256 + low

@@ -1,7 +1,7 @@
 ghost use Rattle.word.specs.Arithmetic.{told, cut, sum, difference, product, quotient, rounded, divides};
 ghost use Rattle.std.specs.Prelude.{◌≡◌, true, ℤ, ◌+ℤ◌, ◌-ℤ◌, ◌*ℤ◌};
 ghost use Rattle.std.specs.Int.{w16, w32};
-ghost use Rattle.std.proofs.Common.{to_z};
+ghost use mir.Val.{to_z};
 
 // What a register computes: the apparent result, which is the true one cut to the register,
 // and what the markers are told of both.
