@@ -14,6 +14,11 @@ abbrev pub bind : {T U E : Type 0} → Result T E → (T → Result U E) → Res
 bind (Ok x) f = f x
 bind (Err e) f = Err e
 
+-- what is read, by its bits
+abbrev pub held : {T E : Type 0} → (T → ℕ) → Result T E → Result ℕ E
+held bits (Ok x) = Ok (bits x)
+held bits (Err e) = Err e
+
 -- a read grant lets its bay read, a write grant both
 abbrev pub permits : Kind → Access → Bool
 permits kind.Read Read = true
@@ -55,6 +60,14 @@ seen bay bs at = bind (checked bay Read at) (λ _. Ok (slice_index bs at))
 
 abbrev pub sight : Bay → List ℕ → Sight
 sight bay bs = record { fetch = seen bay bs; look = seen bay bs; may = checked bay Write }
+
+-- the bytes of a store, which a bay's grants let be seen
+pub record Viewed : Type 0 where
+  pub bay : Bay
+  pub bytes : List ℕ
+
+abbrev pub sight_of : Viewed → Sight
+sight_of v = sight v.bay v.bytes
 
 -- an operand is a byte, a halfword or a fullword
 pub data Item : Type 0 where

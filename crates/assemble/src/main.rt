@@ -1,20 +1,19 @@
 // Makes a store image of a listing: assemble BOOK LISTING IMAGE
 #![tactic(auto)]
 
-mod failure;
-mod files;
 mod print;
 mod work;
 
+use inputs::{Failure, ended};
 use std::process::ExitCode;
 use work::assemble;
 
 fn main(rt: HostRuntime) -> ExitCode {
     match assemble(&rt) {
-        Ok(()) => ExitCode::SUCCESS,
-        Err(e) => {
-            let _ = eprintln!(rt; "assemble: {e}");
+        Err(Failure::Memory(_)) => {
+            let _ = eprintln!(rt; "assemble: out of memory");
             ExitCode::FAILURE
         }
+        outcome => ended(&rt, "assemble", outcome),
     }
 }

@@ -1,37 +1,24 @@
-use crate::failure::Failure;
-use crate::files::{named_files, read_book, read_file, refuse_existing, write_new};
 use crate::print::print_listing;
-use book::Book;
-use listing::{Refused, assemble_into};
-use std::alloc::{AllocError, Global};
-use store::{Owned, append_all};
-
-// What a refused listing is answered with.
-fn refusal(heap: Global, name: &str, refused: Refused) -> Result<String, AllocError> {
-    let line = refused.line;
-    let fault = refused.fault;
-    format!(in heap; "{name}: line {line}: {fault}")
-}
-
-// The image that the listing makes of a store of zeros.
-fn image_of(heap: Global, book: &Book, name: &str, text: &[u8]) -> Result<Vec<u8>, Failure> {
-    let mut store = Owned::new(vec![in heap; 0u8; 65536]?);
-    match assemble_into(book, text, &mut store) {
-        Ok(()) => {
-            let mut image = Vec::new(heap);
-            append_all(&store, 0, 65536, &mut image)?;
-            Ok(image)
-        }
-        Err(refused) => Err(Failure::Said(refusal(heap, name, refused)?)),
-    }
-}
+use inputs::{Failure, Fault, assembled, read_book, read_file, refuse_existing, words, write_new};
+use store::append_all;
 
 pub fn assemble(rt: &HostRuntime) -> Result<(), Failure> {
-    let (book, listing, image) = named_files(rt)?;
-    refuse_existing(rt, image.as_str())?;
+    let words = words(rt)?;
+    let [book, listing, image] = words.as_slice() else {
+        return Err(Failure::Usage("assemble BOOK LISTING IMAGE"));
+    };
+    let image = image.as_str();
+    refuse_existing(rt, image, "it").map_err(|e| e.about(rt.alloc(), image))?;
     let book = read_book(rt, book.as_str())?;
     let text = read_file(rt, listing.as_str())?;
-    let bytes = image_of(rt.alloc(), &book, listing.as_str(), &text)?;
-    write_new(rt, image.as_str(), &bytes)?;
-    print_listing(rt, &book, &text)
+    let store = assembled(rt.alloc(), &book, listing.as_str(), &text)?;
+    let mut bytes = Vec::new(rt.alloc());
+    append_all(&store, 0, 65536, &mut bytes)?;
+    write_new(rt, image, &bytes).map_err(|e| Failure::of_file(
+        rt.alloc(),
+        image,
+        Fault::System(e),
+    ))?;
+    print_listing(rt, &book, &text)?;
+    Ok(())
 }

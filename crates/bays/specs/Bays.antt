@@ -1,8 +1,13 @@
 -- The bays by their numbers.
-use Rattle.std.specs.Prelude.{ℕ, zero, suc, Bool, false, cond, ◌||◌, List, [], ◌∷◌, replicate, None, Option, slice_index_or, slice_set}
+use Rattle.std.specs.Prelude.{ℕ, zero, suc, Bool, false, cond, ◌&&◌, List, [], ◌∷◌, replicate, Some, None, Ok, Err, Option, Result, nat_le, slice_index_or, slice_set}
+use Rattle.std.specs.List.{list_any}
 use Rattle.access.specs.declared.bay.Grant.{Grant}
 use Rattle.machine.specs.declared.registers.Registers.{Registers}
 use Rattle.bays.specs.Grants.{clashes_any, writes}
+use Rattle.bays.specs.Stages.{at_stage}
+use Rattle.bays.specs.declared.refusal.Refusal.{Refusal}
+use Rattle.bays.specs.declared.refusal.Refusal.TheVariants.{OtherStage}
+use Rattle.bays.specs.declared.stage.Stage.{Stage}
 use Rattle.bays.specs.declared.record.BayRecord.{BayRecord}
 
 abbrev pub zeros : Registers
@@ -16,14 +21,21 @@ unfoldable pub bay_at : List BayRecord → ℕ → BayRecord
 bay_at l zero = free
 bay_at l (suc k) = slice_index_or l k free
 
+-- the bay of a number, if a bay has it
+abbrev pub numbered : List BayRecord → ℕ → Option BayRecord
+numbered l n = cond (nat_le 1 n && nat_le n 8) (Some (bay_at l n)) None
+
+-- the bay, at the stage that a call wants
+abbrev pub entered : Stage → List BayRecord → ℕ → Result BayRecord Refusal
+entered s l n = cond (at_stage s (bay_at l n).stage) (Ok (bay_at l n)) (Err OtherStage)
+
 unfoldable pub put_bay : List BayRecord → ℕ → BayRecord → List BayRecord
 put_bay l zero b = l
 put_bay l (suc k) b = slice_set l k b
 
 -- a grant clashes with one of any bay
 abbrev pub clash : Grant → List BayRecord → Bool
-clash g [] = false
-clash g (b ∷ l) = clashes_any g b.bay.grants || clash g l
+clash g l = list_any (λ b. clashes_any g b.bay.grants) l
 
 -- each byte zero if a write grant has it, else as it was; the first is at an address
 abbrev pub wiped : List (Option Grant) → ℕ → List ℕ → List ℕ

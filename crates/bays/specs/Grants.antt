@@ -1,5 +1,6 @@
 -- Grants: which bytes they have, when two clash, and the places for six.
-use Rattle.std.specs.Prelude.{ℕ, suc, Bool, true, false, not, ◌&&◌, ◌||◌, List, [], ◌∷◌, length, Some, None, Option, nat_le, nat_lt, slice_set}
+use Rattle.std.specs.Prelude.{ℕ, suc, Bool, true, false, cond, not, ◌&&◌, List, [], ◌∷◌, length, Some, None, Option, nat_le, nat_lt, slice_set}
+use Rattle.std.specs.List.{list_any}
 use Rattle.access.specs.Access.{granted}
 use Rattle.access.specs.declared.bay.Grant.{Grant}
 use Rattle.access.specs.declared.bay.Kind.{Kind}
@@ -32,10 +33,9 @@ clashes g None = false
 clashes g (Some h) = not (both_read g.kind h.kind) && shares g h
 
 abbrev pub clashes_any : Grant → List (Option Grant) → Bool
-clashes_any g [] = false
-clashes_any g (h ∷ hs) = clashes g h || clashes_any g hs
+clashes_any g hs = list_any (clashes g) hs
 
--- the first vacant place, and a grant put there
+-- how many places there are before the first vacant one, that one if there is one, and a grant put there
 abbrev pub vacant : List (Option Grant) → ℕ
 vacant [] = 0
 vacant (None ∷ gs) = 0
@@ -43,6 +43,9 @@ vacant (Some h ∷ gs) = suc (vacant gs)
 
 abbrev pub room : List (Option Grant) → Bool
 room gs = nat_lt (vacant gs) (length gs)
+
+abbrev pub place : List (Option Grant) → Option ℕ
+place gs = cond (room gs) (Some (vacant gs)) None
 
 abbrev pub added : Grant → List (Option Grant) → List (Option Grant)
 added g gs = slice_set gs (vacant gs) (Some g)

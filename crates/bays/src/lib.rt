@@ -8,9 +8,9 @@ mod stage;
 mod table;
 mod wiping;
 
-pub use grants::first_vacant;
+pub use grants::{clash_with_any, first_vacant};
 pub use record::BayRecord;
 pub use refusal::Refusal;
-pub use stage::{Stage, is_at};
+pub use stage::Stage;
 pub use table::Table;
 pub use wiping::wipe;

@@ -7,7 +7,7 @@ use machine::Registers;
 
 // What the hall keeps of a bay: its stage (none while it is free), its grants, its program's registers
 // and markers, and the stop that stands.
-#[derive(Clone, Copy)]
+#[derive(Clone, Copy, Debug, PartialEq, Eq)]
 pub struct BayRecord {
     pub stage: Option<Stage>,
     pub bay: Bay,
@@ -20,24 +20,10 @@ impl BayRecord {
     pub fn free() -> BayRecord
         ensures { result ≡ Bays.free }
     {
-        let registers = Registers {
-            a: 0,
-            b: 0,
-            x: 0,
-            y: 0,
-            z: 0,
-            s: 0,
-            l: 0,
-            fm: false,
-            n: false,
-            zr: false,
-            of: false,
-            ca: false,
-        };
         BayRecord {
             stage: None,
             bay: Bay { grants: [None; 6] },
-            registers,
+            registers: Registers::default(),
             stop: None,
         }
     }

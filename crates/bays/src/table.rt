@@ -1,8 +1,10 @@
-ghost use Rattle.bays.specs.Bays.{bay_at, clash, free, put_bay};
+ghost use Rattle.bays.specs.Bays.{clash, free, numbered, put_bay};
 ghost use Rattle.std.specs.Prelude.{◌≡◌, length, replicate};
 
 use crate::grants::clash_with_any;
 use crate::record::BayRecord;
+use crate::refusal::Refusal;
+use crate::stage::Stage;
 use access::Grant;
 
 // The bays 1 to 8.
@@ -10,17 +12,6 @@ use access::Grant;
 pub struct Table {
     pub bays: [BayRecord; 8],
     ghost eight: { length bays ≡ 8 },
-}
-
-fn clash_in(grant: Grant, bays: &[BayRecord]) -> bool
-    ensures { result ≡ clash grant bays.now }
-{
-    for record in bays {
-        if clash_with_any(grant, &record.bay.grants) {
-            return true;
-        }
-    }
-    false
 }
 
 impl Table {
@@ -33,22 +24,29 @@ impl Table {
         }
     }
 
-    // The bay of a number; a number that no bay has is answered as a free bay.
-    pub fn bay(&self, number: u8) -> BayRecord
-        ensures { result ≡ bay_at self.now.bays number }
+    // The bay of a number.
+    pub fn get(&self, number: u8) -> Option<BayRecord>
+        ensures { result ≡ numbered self.now.bays number }
     {
-        if number < 1 || number > 8 {
-            BayRecord::free()
-        } else {
-            self.bays[number as usize - 1]
-        }
+        let index = usize::from(number).checked_sub(1)?;
+        self.bays.get(index).copied()
     }
 
+    // The bay of a number, at the stage that a call wants.
+    pub fn entered(&self, number: u8, wanted: Stage) -> Result<BayRecord, Refusal>
+        ensures { result ≡ Rattle.bays.specs.Bays.entered wanted self.now.bays number }
+    {
+        self.get(number)
+            .filter(|record| record.stage == Some(wanted))
+            .ok_or(Refusal::OtherStage)
+    }
+
+    // Nothing is put where no bay has the number.
     pub fn put(&mut self, number: u8, kept: BayRecord)
         ensures { self.new.bays ≡ put_bay self.old.bays number kept }
     {
-        if number >= 1 && number <= 8 {
-            self.bays[number as usize - 1] = kept;
+        if (1..=8).contains(&number) {
+            self.bays[usize::from(number) - 1] = kept;
         }
     }
 
@@ -56,6 +54,8 @@ impl Table {
     pub fn clashes(&self, grant: Grant) -> bool
         ensures { result ≡ clash grant self.now.bays }
     {
-        clash_in(grant, &self.bays)
+        self.bays
+            .iter()
+            .any(|record| clash_with_any(grant, &record.bay.grants))
     }
 }

@@ -9,8 +9,8 @@ use Rattle.word.specs.Fields.{as_signed, unsigned_in, signed_in}
 use Rattle.book.specs.Rows.{is_name, has_name}
 use Rattle.book.specs.Sound.{between, reserved, legal_l, apart}
 use Rattle.book.specs.Wholes.{word_of, branches}
-use Rattle.book.specs.Put.{number_in, made_of}
-use Rattle.book.specs.Layout.{LaysL, LaysBitl, LaysWhole, Lays}
+use Rattle.book.specs.Put.{number_in, m_limit, d_limit, word_a, pattern_at, put_a, made_of}
+use Rattle.book.specs.Layout.{LaysA, LaysL, LaysBitl, LaysWhole, Lays}
 use Rattle.book.proofs.Facts.{Facts}
 use Rattle.book.proofs.Entering.{legal_at}
 
@@ -71,50 +71,15 @@ l_plain t g k n e =
     let r = (and_parts (not (reserved k)) (between 31 43 (rank n)) (and_parts (between 16 63 k) _ h).1).1 in
     plain n (leb-true (rank n) 43 (and_parts (leb 31 (rank n)) (leb (rank n) 43) r).1)
 
-again_a1 : (t : Tables) → Facts t → (w : ℕ) (n : Name) (m : ℕ) (d : ℤ) → Lays t w n A1 m d → made_of t n A1 (pos m) d ≡ Ok w
-again_a1 t g w n m d l =
-    let f = numbered t.a g.a_apart l.k n l.name in
-    let p = l.pattern in
+-- an A word, by the place and the unit of its format's pattern
+again_a : (t : Tables) → Facts t → (w : ℕ) (n : Name) (f : Format) (m : ℕ) (d : ℤ) (place unit : ℕ) (l : LaysA t place unit (m_limit f) (d_limit f) w n m d) → pattern_at t f ≡ get_or t.patterns place None → word_a f l.k l.v m l.x ≡ w → put_a t n f (pos m) d ≡ Ok w
+again_a t g w n f m d place unit l p e =
+    let k = numbered t.a g.a_apart l.k n l.name in
+    let v : pattern_at t f ≡ Some l.v = p ∙ l.pattern in
     let y = l.d_is in
-    let a = lt-ltb m 1 l.m_fits in
-    let b = lt-ltb l.x 256 l.d_fits in
-    simp (f, p, y, a, b) (ap Ok (omega arith))
-
-again_a2 : (t : Tables) → Facts t → (w : ℕ) (n : Name) (m : ℕ) (d : ℤ) → Lays t w n A2 m d → made_of t n A2 (pos m) d ≡ Ok w
-again_a2 t g w n m d l =
-    let f = numbered t.a g.a_apart l.k n l.name in
-    let p = l.pattern in
-    let y = l.d_is in
-    let a = lt-ltb m 4 l.m_fits in
-    let b = lt-ltb l.x 128 l.d_fits in
-    simp (f, p, y, a, b) (ap Ok (omega arith))
-
-again_a3 : (t : Tables) → Facts t → (w : ℕ) (n : Name) (m : ℕ) (d : ℤ) → Lays t w n A3 m d → made_of t n A3 (pos m) d ≡ Ok w
-again_a3 t g w n m d l =
-    let f = numbered t.a g.a_apart l.k n l.name in
-    let p = l.pattern in
-    let y = l.d_is in
-    let a = lt-ltb m 1 l.m_fits in
-    let b = lt-ltb l.x 64 l.d_fits in
-    simp (f, p, y, a, b) (ap Ok (omega arith))
-
-again_a4 : (t : Tables) → Facts t → (w : ℕ) (n : Name) (m : ℕ) (d : ℤ) → Lays t w n A4 m d → made_of t n A4 (pos m) d ≡ Ok w
-again_a4 t g w n m d l =
-    let f = numbered t.a g.a_apart l.k n l.name in
-    let p = l.pattern in
-    let y = l.d_is in
-    let a = lt-ltb m 4 l.m_fits in
-    let b = lt-ltb l.x 32 l.d_fits in
-    simp (f, p, y, a, b) (ap Ok (omega arith))
-
-again_a5 : (t : Tables) → Facts t → (w : ℕ) (n : Name) (m : ℕ) (d : ℤ) → Lays t w n A5 m d → made_of t n A5 (pos m) d ≡ Ok w
-again_a5 t g w n m d l =
-    let f = numbered t.a g.a_apart l.k n l.name in
-    let p = l.pattern in
-    let y = l.d_is in
-    let a = lt-ltb m 4 l.m_fits in
-    let b = lt-ltb l.x 16 l.d_fits in
-    simp (f, p, y, a, b) (ap Ok (omega arith))
+    let a = lt-ltb m (m_limit f) l.m_fits in
+    let b = lt-ltb l.x (d_limit f) l.d_fits in
+    simp (k, v, y, a, b) (ap Ok e)
 
 again_b : (t : Tables) → Facts t → (w : ℕ) (n : Name) (m : ℕ) (d : ℤ) → Lays t w n B m d → made_of t n B (pos m) d ≡ Ok w
 again_b t g w n m d l =
@@ -151,10 +116,10 @@ again_whole t w n m d l =
 
 -- what a layout holds, put together, gives its word
 pub again : (t : Tables) → Facts t → (w : ℕ) (n : Name) (f : Format) (m : ℕ) (d : ℤ) → Lays t w n f m d → made_of t n f (pos m) d ≡ Ok w
-again t g w n A1 m d l = again_a1 t g w n m d l
-again t g w n A2 m d l = again_a2 t g w n m d l
-again t g w n A3 m d l = again_a3 t g w n m d l
-again t g w n A4 m d l = again_a4 t g w n m d l
-again t g w n A5 m d l = again_a5 t g w n m d l
+again t g w n A1 m d l = again_a t g w n A1 m d 0 256 l refl (omega arith)
+again t g w n A2 m d l = again_a t g w n A2 m d 1 512 l refl (omega arith)
+again t g w n A3 m d l = again_a t g w n A3 m d 2 64 l refl (omega arith)
+again t g w n A4 m d l = again_a t g w n A4 m d 3 128 l refl (omega arith)
+again t g w n A5 m d l = again_a t g w n A5 m d 4 64 l refl (omega arith)
 again t g w n L m d l = ⊎_elim (again_whole t w n m d) (⊎_elim (again_bitl t w n m d) (again_l t g w n m d)) l
 again t g w n B m d l = again_b t g w n m d l

@@ -1,4 +1,4 @@
-use Rattle.std.proofs.Common.{◌≡◌, ℕ, suc, ◌+◌, Bool, true, false, cond, eqb, ltb, [], ◌∷◌, ◌++◌, length, take, drop, Some, None, Ok, Err, Option, sym, refl, ap, ◌∙◌, append_assoc, append-nil, arith}
+use Rattle.std.proofs.Common.{◌≡◌, ℕ, suc, ◌+◌, Bool, true, false, cond, eqb, ltb, [], ◌∷◌, ◌++◌, length, take, drop, Some, None, Ok, Err, Option, Result, sym, refl, ap, ◌∙◌, append_assoc, append-nil, arith}
 use Rattle.std.proofs.lemmas.Bool.{lt-ltb, ne_eqb}
 use Rattle.std.proofs.lemmas.Bool.Decides.{nat_tests}
 use Rattle.text.specs.Search.{Bytes, place, empty}
@@ -6,8 +6,7 @@ use Rattle.text.specs.Next.{First, a_line, the_end, unended, line_of, line_2, re
 use Rattle.text.proofs.Following.{number_on}
 use Rattle.book.specs.declared.tables.Tables.{Tables}
 use Rattle.book.specs.Columns.{Three, three}
-use Rattle.book.specs.Add.{added}
-use Rattle.book.specs.Read.{Read, ended, then_go, line_go, gather}
+use Rattle.book.specs.Read.{Read, ended, then_go, fields_rule, line_rule, line_go, gather}
 
 -- what is gathered from s is its first line, up to the place p, and then the rest
 abbrev at_place : Bytes → ℕ → Tables → Bytes → ℕ → Bool → Read
@@ -45,15 +44,25 @@ stops s n b h = gather_line s n b ∙ ap (by_line n b (rest_of s)) (sym h)
 pub ends : (s : Bytes) (n : ℕ) (b : Tables) → the_end ≡ line_of s → gather [] n b s ≡ ended n b
 ends s n b h = gather_line s n b ∙ ap (by_line n b (rest_of s)) (sym h)
 
-goes : (s l : Bytes) (n : ℕ) (b : Tables) (o : Option Three) → a_line l ≡ line_of s → o ≡ three l → gather [] n b s ≡ line_go n o b (λ b'. gather [] (n + 1) b' (rest_of s))
-goes s l n b o h e = gather_line s n b ∙ ap (by_line n b (rest_of s)) (sym h) ∙ ap (λ v. line_go n v b (λ b'. gather [] (n + 1) b' (rest_of s))) (sym e)
+went : (n : ℕ) (o : Option Three) (b : Tables) (k : Tables → Read) → line_go n o b k ≡ then_go n (fields_rule b o) k
+went n None b k = refl
+went n (Some f) b k = refl
 
-pub malformed : (s l : Bytes) (n : ℕ) (b : Tables) → a_line l ≡ line_of s → None ≡ three l → gather [] n b s ≡ Err (11, n)
-malformed s l n b h e = goes s l n b None h e
+goes : (s l : Bytes) (n : ℕ) (b : Tables) → a_line l ≡ line_of s → gather [] n b s ≡ then_go n (line_rule b l) (λ b'. gather [] (n + 1) b' (rest_of s))
+goes s l n b h = gather_line s n b ∙ ap (by_line n b (rest_of s)) (sym h) ∙ went n (three l) b (λ b'. gather [] (n + 1) b' (rest_of s))
 
-pub goes_on : (s s' l : Bytes) (n n' : ℕ) (b b' : Tables) (f : Three) → a_line l ≡ line_of s → s' ≡ rest_of s → n' ≡ line_after s n → Some f ≡ three l → Ok b' ≡ added b f.0 f.1 f.2 → gather [] n' b' s' ≡ gather [] n b s
-goes_on s s' l n n' b b' f h r m e a =
-    ap (λ k. gather [] k b' s') (m ∙ number_on s l n h) ∙ ap (gather [] (n + 1) b') r ∙ ap (λ o. then_go n o (λ v. gather [] (n + 1) v (rest_of s))) a ∙ sym (goes s l n b (Some f) h e)
+took : (n : ℕ) (r : Result Tables ℕ) (b : Tables) (k : Tables → Read) → Ok b ≡ then_go n r Ok → then_go n r k ≡ k b
+took n (Ok t) b k a = let e : b ≡ t = cc in ap k (sym e)
+took n (Err e) b k a = let z : ◌≡◌ {A = ℕ} 0 1 = cc in absurd (omega arith)
 
-pub turns_away : (s l : Bytes) (n : ℕ) (b : Tables) (f : Three) (e : ℕ) → a_line l ≡ line_of s → Some f ≡ three l → Err e ≡ added b f.0 f.1 f.2 → gather [] n b s ≡ Err (e, n)
-turns_away s l n b f e h g a = goes s l n b (Some f) h g ∙ ap (λ o. then_go n o (λ v. gather [] (n + 1) v (rest_of s))) (sym a)
+lost : (n : ℕ) (r : Result Tables ℕ) (p : ℕ × ℕ) (k : Tables → Read) → Err p ≡ then_go n r Ok → then_go n r k ≡ Err p
+lost n (Ok t) p k a = let z : ◌≡◌ {A = ℕ} 0 1 = cc in absurd (omega arith)
+lost n (Err e) p k a = sym a
+
+-- a line was taken, or turned away
+pub goes_on : (s s' l : Bytes) (m n n' : ℕ) (b b' : Tables) → a_line l ≡ line_of s → s' ≡ rest_of s → m ≡ n → n' ≡ line_after s n → Ok b' ≡ then_go m (line_rule b l) Ok → gather [] n' b' s' ≡ gather [] n b s
+goes_on s s' l m n n' b b' h r q e a =
+    ap (λ k. gather [] k b' s') (e ∙ number_on s l n h) ∙ ap (gather [] (n + 1) b') r ∙ sym (goes s l n b h ∙ took n (line_rule b l) b' (λ v. gather [] (n + 1) v (rest_of s)) (a ∙ ap (λ k. then_go k (line_rule b l) Ok) q))
+
+pub turns_away : (s l : Bytes) (m n : ℕ) (b : Tables) (p : ℕ × ℕ) → a_line l ≡ line_of s → m ≡ n → Err p ≡ then_go m (line_rule b l) Ok → gather [] n b s ≡ Err p
+turns_away s l m n b p h q a = goes s l n b h ∙ lost n (line_rule b l) p (λ v. gather [] (n + 1) v (rest_of s)) (a ∙ ap (λ k. then_go k (line_rule b l) Ok) q)

@@ -1,8 +1,10 @@
-use Rattle.std.proofs.Common.{◌≡◌, ℕ, ◌+◌, true, not, eqb, [], ◌∷◌, ◌++◌, length, get_or, set, is_some, Some, None, Ok, Err, Option, Result, sym, refl, ap, subst}
+use Rattle.std.proofs.Common.{◌≡◌, ℕ, ◌+◌, Bool, true, false, not, eqb, [], ◌∷◌, ◌++◌, length, get_or, set, is_some, Some, None, Ok, Err, Option, Result, sym, refl, ap, subst, arith}
 use Rattle.std.proofs.lemmas.Bool.{or_parts, and_from, cond_both}
 use Rattle.code.specs.declared.name.Name.{Name}
 use Rattle.code.specs.Formats.{format_of}
-use Rattle.code.specs.Names.{rank, names_a, names_l, names_b, name_a, name_l, name_b}
+use Rattle.code.specs.declared.letter.Letter.{Letter}
+use Rattle.code.specs.declared.letter.Letter.TheVariants as letter
+use Rattle.code.specs.Names.{rank, names_of, named}
 use Rattle.text.specs.Search.{Bytes, empty}
 use Rattle.text.specs.Numbers.{number_of}
 use Rattle.text.proofs.Digits.{number_within}
@@ -11,10 +13,10 @@ use Rattle.book.specs.Columns.{Three, three}
 use Rattle.book.specs.Rows.{has_name, taken}
 use Rattle.book.specs.Patterns.{place_of, length_at, pattern_of, clashes, every}
 use Rattle.book.specs.Sound.{between, reserved, legal_a, legal_l, legal_b, legal_pattern, sound}
-use Rattle.book.specs.Add.{need, with_a, with_l, with_b, with_p, add_f, add_a, add_l, add_b, by_letter, added}
+use Rattle.book.specs.Add.{need, with_p, rows_of, with_rows, unreserved, number_under, add_f, add_name, by_letter, added}
 use Rattle.book.specs.Read.{Read, ended, then_go, line_go, gather, no_tables, read_rule}
 use Rattle.book.proofs.Facts.{Facts, facts, sound_by}
-use Rattle.book.proofs.Entering.{nothing, legal_set, apart_set, parted_set, named_every, pattern_fits}
+use Rattle.book.proofs.Entering.{nothing, legal_set, apart_set, parted_set, every_name, named_every, pattern_fits}
 
 -- what is read is sound
 abbrev pub Keeps : {E : Type 0} → Result Tables E → Type 0
@@ -25,42 +27,46 @@ or_else : {X : Type 0} (o : Option X) (e : ℕ) (f : X → Result Tables ℕ) �
 or_else None e f h = tt
 or_else (Some x) e f h = h x refl
 
-rank_a : (s : Bytes) (n : Name) → name_a s ≡ Some n → between 0 30 (rank n) ≡ true
-unfolding name_a
-rank_a s n e = named_every (λ m. between 0 30 (rank m)) names_a s n refl e
+rank_in : (P : Name → Bool) (c : Letter) (s : Bytes) (n : Name) → every_name P (names_of c) ≡ true → named c s ≡ Some n → P n ≡ true
+unfolding named
+rank_in P c s n a e = named_every P (names_of c) s n a e
 
-rank_l : (s : Bytes) (n : Name) → name_l s ≡ Some n → between 31 43 (rank n) ≡ true
-unfolding name_l
-rank_l s n e = named_every (λ m. between 31 43 (rank m)) names_l s n refl e
+unreserved_was : (o : Option ℕ) (k : ℕ) → unreserved o ≡ Some k → (o ≡ Some k) × (reserved k ≡ false)
+unreserved_was None k h = let z : ◌≡◌ {A = ℕ} 0 1 = cc in absurd (omega arith)
+unreserved_was (Some j) k h =
+    cond_both (reserved j) None (Some j) (λ o. o ≡ Some k → (Some j ≡ Some k) × (reserved k ≡ false))
+    (λ _ e. let z : ◌≡◌ {A = ℕ} 0 1 = cc in absurd (omega arith))
+    (λ r e. let q : j ≡ k = cc in (ap Some q, subst (λ x. reserved x ≡ false) q r))
+    h
 
-rank_b : (s : Bytes) (n : Name) → name_b s ≡ Some n → between 44 45 (rank n) ≡ true
-unfolding name_b
-rank_b s n e = named_every (λ m. between 44 45 (rank m)) names_b s n refl e
+-- a number and a name that go together under a letter
+abbrev legal : Letter → ℕ → Name → Bool
+legal letter.A = legal_a
+legal letter.L = legal_l
+legal letter.B = legal_b
 
-keeps_a : (t : Tables) → Facts t → (s v : Bytes) → Keeps (add_a t s v)
-keeps_a t g s v =
-    or_else (name_a s) 12 _ (λ n e. or_else (number_of 16 63 v) 13 _ (λ k q.
-    cond_both (taken t.a n k) (Err 14) (Ok (with_a t (set t.a k (Some n)))) Keeps (λ _. tt) (λ h.
+legal_in : (c : Letter) (s v : Bytes) (n : Name) (k : ℕ) → named c s ≡ Some n → number_under c v ≡ Some k → legal c k n ≡ true
+legal_in letter.A s v n k e q = and_from _ _ (number_within 16 63 v k q) (rank_in (λ m. between 0 30 (rank m)) letter.A s n refl e)
+legal_in letter.L s v n k e q =
+    let u = unreserved_was (number_of 16 63 v) k q in
+    and_from _ _ (number_within 16 63 v k u.0) (and_from _ _ (ap not u.1) (rank_in (λ m. between 31 43 (rank m)) letter.L s n refl e))
+legal_in letter.B s v n k e q = and_from _ _ (number_within 1 3 v k q) (rank_in (λ m. between 44 45 (rank m)) letter.B s n refl e)
+
+sound_with : (c : Letter) (t : Tables) → Facts t → (n : Name) (k : ℕ) → legal c k n ≡ true → taken (rows_of c t) n k ≡ false → sound (with_rows c t (set (rows_of c t) k (Some n))) ≡ true
+sound_with letter.A t g n k l h =
     let p = or_parts (is_some (get_or t.a k None)) (has_name n t.a) h in
-    let l : legal_a k n ≡ true = and_from _ _ (number_within 16 63 v k q) (rank_a s n e) in
-    sound_by (with_a t (set t.a k (Some n))) (record { a_legal = legal_set legal_a t.a k n l g.a_legal; a_apart = apart_set t.a k n g.a_apart (nothing _ p.0) p.1; l_legal = g.l_legal; l_apart = g.l_apart; b_legal = g.b_legal; b_apart = g.b_apart; p_legal = g.p_legal; p_parted = g.p_parted }))))
-
-keeps_l : (t : Tables) → Facts t → (s v : Bytes) → Keeps (add_l t s v)
-keeps_l t g s v =
-    or_else (name_l s) 12 _ (λ n e. or_else (number_of 16 63 v) 13 _ (λ k q.
-    cond_both (reserved k) (Err 13) _ Keeps (λ _. tt) (λ r.
-    cond_both (taken t.l n k) (Err 14) (Ok (with_l t (set t.l k (Some n)))) Keeps (λ _. tt) (λ h.
+    sound_by (with_rows letter.A t (set t.a k (Some n))) (record { a_legal = legal_set legal_a t.a k n l g.a_legal; a_apart = apart_set t.a k n g.a_apart (nothing _ p.0) p.1; l_legal = g.l_legal; l_apart = g.l_apart; b_legal = g.b_legal; b_apart = g.b_apart; p_legal = g.p_legal; p_parted = g.p_parted })
+sound_with letter.L t g n k l h =
     let p = or_parts (is_some (get_or t.l k None)) (has_name n t.l) h in
-    let l : legal_l k n ≡ true = and_from _ _ (number_within 16 63 v k q) (and_from _ _ (ap not r) (rank_l s n e)) in
-    sound_by (with_l t (set t.l k (Some n))) (record { a_legal = g.a_legal; a_apart = g.a_apart; l_legal = legal_set legal_l t.l k n l g.l_legal; l_apart = apart_set t.l k n g.l_apart (nothing _ p.0) p.1; b_legal = g.b_legal; b_apart = g.b_apart; p_legal = g.p_legal; p_parted = g.p_parted })))))
-
-keeps_b : (t : Tables) → Facts t → (s v : Bytes) → Keeps (add_b t s v)
-keeps_b t g s v =
-    or_else (name_b s) 12 _ (λ n e. or_else (number_of 1 3 v) 13 _ (λ k q.
-    cond_both (taken t.b n k) (Err 14) (Ok (with_b t (set t.b k (Some n)))) Keeps (λ _. tt) (λ h.
+    sound_by (with_rows letter.L t (set t.l k (Some n))) (record { a_legal = g.a_legal; a_apart = g.a_apart; l_legal = legal_set legal_l t.l k n l g.l_legal; l_apart = apart_set t.l k n g.l_apart (nothing _ p.0) p.1; b_legal = g.b_legal; b_apart = g.b_apart; p_legal = g.p_legal; p_parted = g.p_parted })
+sound_with letter.B t g n k l h =
     let p = or_parts (is_some (get_or t.b k None)) (has_name n t.b) h in
-    let l : legal_b k n ≡ true = and_from _ _ (number_within 1 3 v k q) (rank_b s n e) in
-    sound_by (with_b t (set t.b k (Some n))) (record { a_legal = g.a_legal; a_apart = g.a_apart; l_legal = g.l_legal; l_apart = g.l_apart; b_legal = legal_set legal_b t.b k n l g.b_legal; b_apart = apart_set t.b k n g.b_apart (nothing _ p.0) p.1; p_legal = g.p_legal; p_parted = g.p_parted }))))
+    sound_by (with_rows letter.B t (set t.b k (Some n))) (record { a_legal = g.a_legal; a_apart = g.a_apart; l_legal = g.l_legal; l_apart = g.l_apart; b_legal = legal_set legal_b t.b k n l g.b_legal; b_apart = apart_set t.b k n g.b_apart (nothing _ p.0) p.1; p_legal = g.p_legal; p_parted = g.p_parted })
+
+keeps_name : (c : Letter) (t : Tables) → Facts t → (s v : Bytes) → Keeps (add_name c t s v)
+keeps_name c t g s v =
+    or_else (named c s) 12 _ (λ n e. or_else (number_under c v) 13 _ (λ k q.
+    cond_both (taken (rows_of c t) n k) (Err 14) (Ok (with_rows c t (set (rows_of c t) k (Some n)))) Keeps (λ _. tt) (λ h. sound_with c t g n k (legal_in c s v n k e q) h)))
 
 keeps_f : (t : Tables) → Facts t → (s v : Bytes) → Keeps (add_f t s v)
 keeps_f t g s v =
@@ -74,9 +80,9 @@ keeps_added t h c s v =
     let l = get_or c 0 0 in
     cond_both (eqb (length c) 1) (by_letter l t s v) (Err 12) Keeps
     (λ _. cond_both (eqb l 70) (add_f t s v) _ Keeps (λ _. keeps_f t g s v) (λ _.
-    cond_both (eqb l 65) (add_a t s v) _ Keeps (λ _. keeps_a t g s v) (λ _.
-    cond_both (eqb l 76) (add_l t s v) _ Keeps (λ _. keeps_l t g s v) (λ _.
-    cond_both (eqb l 66) (add_b t s v) (Err 12) Keeps (λ _. keeps_b t g s v) (λ _. tt)))))
+    cond_both (eqb l 65) (add_name letter.A t s v) _ Keeps (λ _. keeps_name letter.A t g s v) (λ _.
+    cond_both (eqb l 76) (add_name letter.L t s v) _ Keeps (λ _. keeps_name letter.L t g s v) (λ _.
+    cond_both (eqb l 66) (add_name letter.B t s v) (Err 12) Keeps (λ _. keeps_name letter.B t g s v) (λ _. tt)))))
     (λ _. tt)
 
 keeps_then : (n : ℕ) (r : Result Tables ℕ) (k : Tables → Read) → Keeps r → ((t : Tables) → sound t ≡ true → Keeps (k t)) → Keeps (then_go n r k)

@@ -1,4 +1,4 @@
-use Rattle.std.proofs.Common.{◌≡◌, ℕ, suc, ◌+◌, ◌-◌, ◌*◌, ◌<◌, Bool, true, false, cond, eqb, ltb, List, [], ◌∷◌, get_or, ℤ, pos, negsuc, Some, None, Ok, Option, Result, refl, ap, ◌∙◌, subst, inl, inr, arith}
+use Rattle.std.proofs.Common.{◌≡◌, ℕ, suc, ◌+◌, ◌-◌, ◌*◌, ◌<◌, Bool, true, false, cond, eqb, ltb, List, [], ◌∷◌, get_or, ℤ, pos, negsuc, Some, None, Ok, Option, Result, sym, refl, ap, ◌∙◌, subst, inl, inr, arith}
 use Rattle.code.specs.declared.name.Name.{Name}
 use Rattle.code.specs.declared.name.Name.TheVariants.{Bitl}
 use Rattle.code.specs.declared.format.Format.{Format}
@@ -11,7 +11,7 @@ use Rattle.word.specs.Fields.{as_signed, unsigned_in, signed_in}
 use Rattle.book.specs.Wholes.{word_of, branches}
 use Rattle.book.specs.Add.{need}
 use Rattle.book.specs.Put.{number_in, m_limit, d_limit, word_a, pattern_at, put_a, below, put_l, made_of}
-use Rattle.book.specs.Layout.{Lays}
+use Rattle.book.specs.Layout.{LaysA, Lays}
 
 -- what was needed was there
 had : {X : Type 0} (o : Option X) (e : ℕ) (f : X → Result ℕ ℕ) (w : ℕ) → need o e f ≡ Ok w → (x : X) × ((o ≡ Some x) × (f x ≡ Ok w))
@@ -106,30 +106,9 @@ made_below w base m o h =
     let e = y.1.1 in
     record { y = y.0; m_is = x'.0 ∙ ap pos z; d_is = y.1.0; word = cc }
 
-made_a1 : (t : Tables) (w : ℕ) (n : Name) (m d : ℤ) → made_of t n A1 m d ≡ Ok w → Made t w n A1 m d
-made_a1 t w n m d h =
-    let a = made_a t w n A1 m d h in
-    record { x = a.x; m_is = a.m_is; lays = record { k = a.k; v = a.v; x = a.y; name = a.name; pattern = a.pattern; m_fits = a.m_fits; d_fits = a.d_fits; d_is = a.d_is; word = omega (arith, a.word, a.m_fits) } }
-
-made_a2 : (t : Tables) (w : ℕ) (n : Name) (m d : ℤ) → made_of t n A2 m d ≡ Ok w → Made t w n A2 m d
-made_a2 t w n m d h =
-    let a = made_a t w n A2 m d h in
-    record { x = a.x; m_is = a.m_is; lays = record { k = a.k; v = a.v; x = a.y; name = a.name; pattern = a.pattern; m_fits = a.m_fits; d_fits = a.d_fits; d_is = a.d_is; word = omega (arith, a.word, a.m_fits) } }
-
-made_a3 : (t : Tables) (w : ℕ) (n : Name) (m d : ℤ) → made_of t n A3 m d ≡ Ok w → Made t w n A3 m d
-made_a3 t w n m d h =
-    let a = made_a t w n A3 m d h in
-    record { x = a.x; m_is = a.m_is; lays = record { k = a.k; v = a.v; x = a.y; name = a.name; pattern = a.pattern; m_fits = a.m_fits; d_fits = a.d_fits; d_is = a.d_is; word = omega (arith, a.word, a.m_fits) } }
-
-made_a4 : (t : Tables) (w : ℕ) (n : Name) (m d : ℤ) → made_of t n A4 m d ≡ Ok w → Made t w n A4 m d
-made_a4 t w n m d h =
-    let a = made_a t w n A4 m d h in
-    record { x = a.x; m_is = a.m_is; lays = record { k = a.k; v = a.v; x = a.y; name = a.name; pattern = a.pattern; m_fits = a.m_fits; d_fits = a.d_fits; d_is = a.d_is; word = omega (arith, a.word, a.m_fits) } }
-
-made_a5 : (t : Tables) (w : ℕ) (n : Name) (m d : ℤ) → made_of t n A5 m d ≡ Ok w → Made t w n A5 m d
-made_a5 t w n m d h =
-    let a = made_a t w n A5 m d h in
-    record { x = a.x; m_is = a.m_is; lays = record { k = a.k; v = a.v; x = a.y; name = a.name; pattern = a.pattern; m_fits = a.m_fits; d_fits = a.d_fits; d_is = a.d_is; word = omega (arith, a.word, a.m_fits) } }
+-- an A word, by the place and the unit of its format's pattern
+laid_a : (t : Tables) (w : ℕ) (n : Name) (f : Format) (m d : ℤ) (place unit : ℕ) (a : MadeA t w n f m d) → pattern_at t f ≡ get_or t.patterns place None → w ≡ a.k * 1024 + a.v * unit + a.x * d_limit f + a.y → LaysA t place unit (m_limit f) (d_limit f) w n a.x d
+laid_a t w n f m d place unit a p e = record { k = a.k; v = a.v; x = a.y; name = a.name; pattern = sym p ∙ a.pattern; m_fits = a.m_fits; d_fits = a.d_fits; d_is = a.d_is; word = e }
 
 made_b : (t : Tables) (w : ℕ) (n : Name) (m d : ℤ) → made_of t n B m d ≡ Ok w → Made t w n B m d
 made_b t w n m d h =
@@ -164,10 +143,10 @@ made_l t w n m d None e h =
 
 -- a word that was put together has the layout of what it was made from
 pub made : (t : Tables) (w : ℕ) (n : Name) (f : Format) (m d : ℤ) → made_of t n f m d ≡ Ok w → Made t w n f m d
-made t w n A1 m d h = made_a1 t w n m d h
-made t w n A2 m d h = made_a2 t w n m d h
-made t w n A3 m d h = made_a3 t w n m d h
-made t w n A4 m d h = made_a4 t w n m d h
-made t w n A5 m d h = made_a5 t w n m d h
+made t w n A1 m d h = let a = made_a t w n A1 m d h in record { x = a.x; m_is = a.m_is; lays = laid_a t w n A1 m d 0 256 a refl (omega (arith, a.word, a.m_fits)) }
+made t w n A2 m d h = let a = made_a t w n A2 m d h in record { x = a.x; m_is = a.m_is; lays = laid_a t w n A2 m d 1 512 a refl (omega (arith, a.word, a.m_fits)) }
+made t w n A3 m d h = let a = made_a t w n A3 m d h in record { x = a.x; m_is = a.m_is; lays = laid_a t w n A3 m d 2 64 a refl (omega (arith, a.word, a.m_fits)) }
+made t w n A4 m d h = let a = made_a t w n A4 m d h in record { x = a.x; m_is = a.m_is; lays = laid_a t w n A4 m d 3 128 a refl (omega (arith, a.word, a.m_fits)) }
+made t w n A5 m d h = let a = made_a t w n A5 m d h in record { x = a.x; m_is = a.m_is; lays = laid_a t w n A5 m d 4 64 a refl (omega (arith, a.word, a.m_fits)) }
 made t w n L m d h = made_l t w n m d (word_of n) refl h
 made t w n B m d h = made_b t w n m d h

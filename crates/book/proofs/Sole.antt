@@ -11,7 +11,7 @@ use Rattle.code.proofs.Ranks.{rank_tells}
 use Rattle.book.specs.Patterns.{meets, clashes}
 use Rattle.book.specs.Sound.{between, reserved, legal_a, legal_l, legal_b, legal_pattern, free, parted}
 use Rattle.book.specs.Wholes.{whole_of, word_of}
-use Rattle.book.specs.Readings.{fits, meaning}
+use Rattle.book.specs.Readings.{fits, pick, m_of, d_of, meaning}
 use Rattle.book.specs.Layout.{LaysL, LaysBitl, LaysWhole, Lays}
 use Rattle.book.proofs.Facts.{Facts}
 use Rattle.book.proofs.Entering.{legal_at}
@@ -55,74 +55,61 @@ misses t g j k u v l e m =
     (λ h. h)
     (cases_Bool (fits (get_or t.patterns j None) u))
 
+-- an A word, whose number and pattern are found
+found_a : (t : Tables) (w k : ℕ) (n : Name) (f : Format) (m : ℕ) (d : ℤ) → legal_a k n ≡ true → get_or t.a k None ≡ Some n → w / 1024 ≡ k → pick t.patterns (w / 64 % 16) ≡ Some f → m_of f w ≡ m → d ≡ pos (d_of f w) → meaning t w ≡ Defined n f m d
+found_a t w k n f m d h name q p m_is d_is =
+    let b = range 16 63 k (and_parts (between 16 63 k) _ h).0 in
+    let a1 = le-ltb w 1024 (omega arith) in
+    let a2 = le-ltb w 4096 (omega arith) in
+    let a3 = le-ltb w 16384 (omega arith) in
+    simp (a1, a2, a3, p, q, name, m_is, d_is)
+
 sole_a1 : (t : Tables) → Facts t → (w : ℕ) (n : Name) (m : ℕ) (d : ℤ) → Lays t w n A1 m d → meaning t w ≡ Defined n A1 m d
 sole_a1 t g w n m d l =
     let k : ℕ = l.k in
     let v : ℕ = l.v in
-    let b = range 16 63 l.k (and_parts (between 16 63 l.k) _ (legal_at legal_a t.a l.k n g.a_legal l.name)).0 in
+    let h = legal_at legal_a t.a l.k n g.a_legal l.name in
+    let b = range 16 63 l.k (and_parts (between 16 63 l.k) _ h).0 in
     let lim = ltb-true l.v 4 (legal_at legal_pattern t.patterns 0 l.v g.p_legal l.pattern) in
-    let a1 = le-ltb w 1024 (omega arith) in
-    let a2 = le-ltb w 4096 (omega arith) in
-    let a3 = le-ltb w 16384 (omega arith) in
-    let q : w / 1024 ≡ l.k = omega arith in
-    let name = l.name in
     let own : fits (get_or t.patterns 0 None) (w / 64 % 16 / 4) ≡ true = ap (λ o. fits o (w / 64 % 16 / 4)) l.pattern ∙ eq-eqb l.v (w / 64 % 16 / 4) (omega arith) in
-    let m_is : m ≡ 0 = omega arith in
-    let d-at : w % 256 ≡ l.x = omega arith in
-    let d_is = l.d_is in
-    simp (a1, a2, a3, own, q, name, m_is, d-at, d_is)
+    let x : l.x ≡ w % 256 = omega arith in
+    found_a t w l.k n A1 m d h l.name (omega arith) (simp own) (omega arith) (l.d_is ∙ ap pos x)
 
 sole_a2 : (t : Tables) → Facts t → (w : ℕ) (n : Name) (m : ℕ) (d : ℤ) → Lays t w n A2 m d → meaning t w ≡ Defined n A2 m d
 sole_a2 t g w n m d l =
     let k : ℕ = l.k in
     let v : ℕ = l.v in
-    let b = range 16 63 l.k (and_parts (between 16 63 l.k) _ (legal_at legal_a t.a l.k n g.a_legal l.name)).0 in
+    let h = legal_at legal_a t.a l.k n g.a_legal l.name in
+    let b = range 16 63 l.k (and_parts (between 16 63 l.k) _ h).0 in
     let lim = ltb-true l.v 2 (legal_at legal_pattern t.patterns 1 l.v g.p_legal l.pattern) in
-    let a1 = le-ltb w 1024 (omega arith) in
-    let a2 = le-ltb w 4096 (omega arith) in
-    let a3 = le-ltb w 16384 (omega arith) in
-    let q : w / 1024 ≡ l.k = omega arith in
-    let name = l.name in
     let own : fits (get_or t.patterns 1 None) (w / 64 % 16 / 8) ≡ true = ap (λ o. fits o (w / 64 % 16 / 8)) l.pattern ∙ eq-eqb l.v (w / 64 % 16 / 8) (omega arith) in
     let e0 : eqb ((w / 64 % 16 / 4) / 2) l.v ≡ true = eq-eqb ((w / 64 % 16 / 4) / 2) l.v (omega arith) in
     let n0 : fits (get_or t.patterns 0 None) (w / 64 % 16 / 4) ≡ false = misses t g 0 1 (w / 64 % 16 / 4) l.v (omega arith) l.pattern (simp e0) in
-    let m_is : w / 128 % 4 ≡ m = omega arith in
-    let d-at : w % 128 ≡ l.x = omega arith in
-    let d_is = l.d_is in
-    simp (a1, a2, a3, n0, own, q, name, m_is, d-at, d_is)
+    let x : l.x ≡ w % 128 = omega arith in
+    found_a t w l.k n A2 m d h l.name (omega arith) (simp (n0, own)) (omega arith) (l.d_is ∙ ap pos x)
 
 sole_a3 : (t : Tables) → Facts t → (w : ℕ) (n : Name) (m : ℕ) (d : ℤ) → Lays t w n A3 m d → meaning t w ≡ Defined n A3 m d
 sole_a3 t g w n m d l =
     let k : ℕ = l.k in
     let v : ℕ = l.v in
-    let b = range 16 63 l.k (and_parts (between 16 63 l.k) _ (legal_at legal_a t.a l.k n g.a_legal l.name)).0 in
+    let h = legal_at legal_a t.a l.k n g.a_legal l.name in
+    let b = range 16 63 l.k (and_parts (between 16 63 l.k) _ h).0 in
     let lim = ltb-true l.v 16 (legal_at legal_pattern t.patterns 2 l.v g.p_legal l.pattern) in
-    let a1 = le-ltb w 1024 (omega arith) in
-    let a2 = le-ltb w 4096 (omega arith) in
-    let a3 = le-ltb w 16384 (omega arith) in
-    let q : w / 1024 ≡ l.k = omega arith in
-    let name = l.name in
     let own : fits (get_or t.patterns 2 None) (w / 64 % 16) ≡ true = ap (λ o. fits o (w / 64 % 16)) l.pattern ∙ eq-eqb l.v (w / 64 % 16) (omega arith) in
     let e0 : eqb (l.v / 4) (w / 64 % 16 / 4) ≡ true = eq-eqb (l.v / 4) (w / 64 % 16 / 4) (omega arith) in
     let n0 : fits (get_or t.patterns 0 None) (w / 64 % 16 / 4) ≡ false = misses t g 0 2 (w / 64 % 16 / 4) l.v (omega arith) l.pattern (simp e0) in
     let e1 : eqb (l.v / 8) (w / 64 % 16 / 8) ≡ true = eq-eqb (l.v / 8) (w / 64 % 16 / 8) (omega arith) in
     let n1 : fits (get_or t.patterns 1 None) (w / 64 % 16 / 8) ≡ false = misses t g 1 2 (w / 64 % 16 / 8) l.v (omega arith) l.pattern (simp e1) in
-    let m_is : m ≡ 0 = omega arith in
-    let d-at : w % 64 ≡ l.x = omega arith in
-    let d_is = l.d_is in
-    simp (a1, a2, a3, n0, n1, own, q, name, m_is, d-at, d_is)
+    let x : l.x ≡ w % 64 = omega arith in
+    found_a t w l.k n A3 m d h l.name (omega arith) (simp (n0, n1, own)) (omega arith) (l.d_is ∙ ap pos x)
 
 sole_a4 : (t : Tables) → Facts t → (w : ℕ) (n : Name) (m : ℕ) (d : ℤ) → Lays t w n A4 m d → meaning t w ≡ Defined n A4 m d
 sole_a4 t g w n m d l =
     let k : ℕ = l.k in
     let v : ℕ = l.v in
-    let b = range 16 63 l.k (and_parts (between 16 63 l.k) _ (legal_at legal_a t.a l.k n g.a_legal l.name)).0 in
+    let h = legal_at legal_a t.a l.k n g.a_legal l.name in
+    let b = range 16 63 l.k (and_parts (between 16 63 l.k) _ h).0 in
     let lim = ltb-true l.v 8 (legal_at legal_pattern t.patterns 3 l.v g.p_legal l.pattern) in
-    let a1 = le-ltb w 1024 (omega arith) in
-    let a2 = le-ltb w 4096 (omega arith) in
-    let a3 = le-ltb w 16384 (omega arith) in
-    let q : w / 1024 ≡ l.k = omega arith in
-    let name = l.name in
     let own : fits (get_or t.patterns 3 None) (w / 64 % 16 / 2) ≡ true = ap (λ o. fits o (w / 64 % 16 / 2)) l.pattern ∙ eq-eqb l.v (w / 64 % 16 / 2) (omega arith) in
     let e0 : eqb (l.v / 2) (w / 64 % 16 / 4) ≡ true = eq-eqb (l.v / 2) (w / 64 % 16 / 4) (omega arith) in
     let n0 : fits (get_or t.patterns 0 None) (w / 64 % 16 / 4) ≡ false = misses t g 0 3 (w / 64 % 16 / 4) l.v (omega arith) l.pattern (simp e0) in
@@ -130,22 +117,16 @@ sole_a4 t g w n m d l =
     let n1 : fits (get_or t.patterns 1 None) (w / 64 % 16 / 8) ≡ false = misses t g 1 3 (w / 64 % 16 / 8) l.v (omega arith) l.pattern (simp e1) in
     let e2 : eqb ((w / 64 % 16) / 2) l.v ≡ true = eq-eqb ((w / 64 % 16) / 2) l.v (omega arith) in
     let n2 : fits (get_or t.patterns 2 None) (w / 64 % 16) ≡ false = misses t g 2 3 (w / 64 % 16) l.v (omega arith) l.pattern (simp e2) in
-    let m_is : w / 32 % 4 ≡ m = omega arith in
-    let d-at : w % 32 ≡ l.x = omega arith in
-    let d_is = l.d_is in
-    simp (a1, a2, a3, n0, n1, n2, own, q, name, m_is, d-at, d_is)
+    let x : l.x ≡ w % 32 = omega arith in
+    found_a t w l.k n A4 m d h l.name (omega arith) (simp (n0, n1, n2, own)) (omega arith) (l.d_is ∙ ap pos x)
 
 sole_a5 : (t : Tables) → Facts t → (w : ℕ) (n : Name) (m : ℕ) (d : ℤ) → Lays t w n A5 m d → meaning t w ≡ Defined n A5 m d
 sole_a5 t g w n m d l =
     let k : ℕ = l.k in
     let v : ℕ = l.v in
-    let b = range 16 63 l.k (and_parts (between 16 63 l.k) _ (legal_at legal_a t.a l.k n g.a_legal l.name)).0 in
+    let h = legal_at legal_a t.a l.k n g.a_legal l.name in
+    let b = range 16 63 l.k (and_parts (between 16 63 l.k) _ h).0 in
     let lim = ltb-true l.v 16 (legal_at legal_pattern t.patterns 4 l.v g.p_legal l.pattern) in
-    let a1 = le-ltb w 1024 (omega arith) in
-    let a2 = le-ltb w 4096 (omega arith) in
-    let a3 = le-ltb w 16384 (omega arith) in
-    let q : w / 1024 ≡ l.k = omega arith in
-    let name = l.name in
     let own : fits (get_or t.patterns 4 None) (w / 64 % 16) ≡ true = ap (λ o. fits o (w / 64 % 16)) l.pattern ∙ eq-eqb l.v (w / 64 % 16) (omega arith) in
     let e0 : eqb (l.v / 4) (w / 64 % 16 / 4) ≡ true = eq-eqb (l.v / 4) (w / 64 % 16 / 4) (omega arith) in
     let n0 : fits (get_or t.patterns 0 None) (w / 64 % 16 / 4) ≡ false = misses t g 0 4 (w / 64 % 16 / 4) l.v (omega arith) l.pattern (simp e0) in
@@ -155,10 +136,8 @@ sole_a5 t g w n m d l =
     let n2 : fits (get_or t.patterns 2 None) (w / 64 % 16) ≡ false = misses t g 2 4 (w / 64 % 16) l.v (omega arith) l.pattern (simp e2) in
     let e3 : eqb (l.v / 2) (w / 64 % 16 / 2) ≡ true = eq-eqb (l.v / 2) (w / 64 % 16 / 2) (omega arith) in
     let n3 : fits (get_or t.patterns 3 None) (w / 64 % 16 / 2) ≡ false = misses t g 3 4 (w / 64 % 16 / 2) l.v (omega arith) l.pattern (simp e3) in
-    let m_is : w / 16 % 4 ≡ m = omega arith in
-    let d-at : w % 16 ≡ l.x = omega arith in
-    let d_is = l.d_is in
-    simp (a1, a2, a3, n0, n1, n2, n3, own, q, name, m_is, d-at, d_is)
+    let x : l.x ≡ w % 16 = omega arith in
+    found_a t w l.k n A5 m d h l.name (omega arith) (simp (n0, n1, n2, n3, own)) (omega arith) (l.d_is ∙ ap pos x)
 
 sole_b : (t : Tables) → Facts t → (w : ℕ) (n : Name) (m : ℕ) (d : ℤ) → Lays t w n B m d → meaning t w ≡ Defined n B m d
 sole_b t g w n m d l =

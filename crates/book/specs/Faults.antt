@@ -16,9 +16,19 @@ fault_number Missing = 15
 abbrev pub said : Refused → ℕ × ℕ
 said e = (fault_number e.fault, e.line)
 
-abbrev pub coded : Result Tables Fault → Result Tables ℕ
-coded (Ok t) = Ok t
-coded (Err e) = Err (fault_number e)
+-- the first fault of a text whose last line, line n, lacks its line feed
+abbrev pub unended_at : ℕ → Refused
+unended_at n = record { fault = Fields; line = n }
+
+-- the tables that an answer leaves, or the number of the refusal
+abbrev pub left : Result (Unit {0}) Fault → Tables → Result Tables ℕ
+left (Ok u) t = Ok t
+left (Err e) t = Err (fault_number e)
+
+-- the same, with its line
+abbrev pub left_at : Result (Unit {0}) Refused → Tables → Result Tables (ℕ × ℕ)
+left_at (Ok u) t = Ok t
+left_at (Err e) t = Err (said e)
 
 abbrev pub spoken : Result Tables Refused → Result Tables (ℕ × ℕ)
 spoken (Ok t) = Ok t

@@ -1,4 +1,5 @@
-use Rattle.std.specs.Prelude.{ℕ, ◌+◌, ◌-◌, ◌*◌, ◌/◌, ◌^◌, Bool, true, false, cond, ◌&&◌, ◌||◌, List, [], ◌∷◌, length, is_some, Some, None, Option, ◌==◌, nat_le}
+use Rattle.std.specs.Prelude.{ℕ, ◌+◌, ◌-◌, ◌*◌, ◌/◌, ◌^◌, Bool, false, cond, ◌&&◌, ◌||◌, List, [], ◌∷◌, length, is_some, Some, None, Option, ◌==◌, nat_le}
+use Rattle.std.specs.List.{enumerate_from, list_all, list_any}
 use Rattle.code.specs.declared.format.Format.{Format}
 use Rattle.code.specs.declared.format.Format.TheVariants.{A1, A2, A3, A4, A5, L, B}
 use Rattle.text.specs.Search.{Bytes}
@@ -36,9 +37,7 @@ meets f v g (Some u) = f == g || (begins f v g u || begins g u f v)
 
 -- nor beside one of the patterns from place g on
 abbrev pub clashes : ℕ → ℕ → ℕ → List (Option ℕ) → Bool
-clashes f v g [] = false
-clashes f v g (p ∷ ps) = meets f v g p || clashes f v (g + 1) ps
+clashes f v g ps = list_any (λ p. meets f v p.0 p.1) (enumerate_from g ps)
 
 abbrev pub every : List (Option ℕ) → Bool
-every [] = true
-every (p ∷ ps) = is_some p && every ps
+every ps = list_all is_some ps

@@ -1,4 +1,5 @@
-use Rattle.std.specs.Prelude.{ℕ, ◌+◌, ◌*◌, cond, List, [], ◌∷◌, ℤ, Some, None, Ok, Err, Option, Result, ◌==◌, slice_index_or}
+use Rattle.std.specs.Prelude.{ℕ, ◌+◌, ◌*◌, cond, List, ℤ, Some, None, Ok, Err, Option, Result, ◌==◌, slice_index_or}
+use Rattle.std.specs.List.{position_from}
 use Rattle.code.specs.declared.name.Name.{Name}
 use Rattle.code.specs.declared.name.Name.TheVariants.{Bitl}
 use Rattle.code.specs.declared.format.Format.{Format}
@@ -9,6 +10,7 @@ use Rattle.book.specs.declared.tables.Tables.{Tables}
 use Rattle.book.specs.declared.unput.Unput.{Unput}
 use Rattle.book.specs.declared.unput.Unput.TheVariants.{Unavailable, Unfit}
 use Rattle.book.specs.Rows.{is_name}
+use Rattle.book.specs.Patterns.{place_of}
 use Rattle.book.specs.Wholes.{word_of, branches}
 use Rattle.book.specs.Add.{need}
 
@@ -23,8 +25,7 @@ answered (Err e) = Err (unput_number e)
 
 -- the number of a name in a table that begins with the number i
 abbrev pub number_in : Name → ℕ → List (Option Name) → Option ℕ
-number_in n i [] = None
-number_in n i (e ∷ t) = cond (is_name n e) (Some i) (number_in n (i + 1) t)
+number_in n i t = position_from (is_name n) i t
 
 -- how many values the pattern, M and D of an A format have
 abbrev pub v_limit : Format → ℕ
@@ -64,14 +65,12 @@ word_a A5 k v m d = k * 1024 + v * 64 + m * 16 + d
 word_a L k v m d = 0
 word_a B k v m d = 0
 
+abbrev pub at_place : List (Option ℕ) → Option ℕ → Option ℕ
+at_place ps None = None
+at_place ps (Some i) = slice_index_or ps i None
+
 abbrev pub pattern_at : Tables → Format → Option ℕ
-pattern_at t A1 = slice_index_or t.patterns 0 None
-pattern_at t A2 = slice_index_or t.patterns 1 None
-pattern_at t A3 = slice_index_or t.patterns 2 None
-pattern_at t A4 = slice_index_or t.patterns 3 None
-pattern_at t A5 = slice_index_or t.patterns 4 None
-pattern_at t L = None
-pattern_at t B = None
+pattern_at t f = at_place t.patterns (place_of f)
 
 abbrev pub put_a : Tables → Name → Format → ℤ → ℤ → Result ℕ ℕ
 put_a t n f m d = need (number_in n 0 t.a) 21 (λ k. need (pattern_at t f) 21 (λ v. need (unsigned_in (m_limit f) m) 22 (λ x. need (unsigned_in (d_limit f) d) 22 (λ y. Ok (word_a f k v x y)))))

@@ -17,6 +17,14 @@ abbrev pub then_go : ℕ → Result Tables ℕ → (Tables → Read) → Read
 then_go n (Err e) k = Err (e, n)
 then_go n (Ok t) k = k t
 
+abbrev pub fields_rule : Tables → Option Three → Result Tables ℕ
+fields_rule t None = Err 11
+fields_rule t (Some f) = added t f.0 f.1 f.2
+
+-- the tables with what a line says
+abbrev pub line_rule : Tables → Bytes → Result Tables ℕ
+line_rule t s = fields_rule t (three s)
+
 abbrev pub line_go : ℕ → Option Three → Tables → (Tables → Read) → Read
 line_go n None t k = Err (11, n)
 line_go n (Some f) t k = then_go n (added t f.0 f.1 f.2) k

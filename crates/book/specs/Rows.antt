@@ -1,4 +1,5 @@
-use Rattle.std.specs.Prelude.{ℕ, Bool, false, ◌||◌, List, [], ◌∷◌, is_some, Some, None, Option, ◌==◌, slice_index_or}
+use Rattle.std.specs.Prelude.{ℕ, Bool, false, ◌||◌, List, is_some, Some, None, Option, ◌==◌, slice_index_or}
+use Rattle.std.specs.List.{list_any}
 use Rattle.code.specs.declared.name.Name.{Name}
 use Rattle.code.specs.Names.{rank}
 
@@ -7,8 +8,7 @@ is_name n None = false
 is_name n (Some m) = rank m == rank n
 
 abbrev pub has_name : Name → List (Option Name) → Bool
-has_name n [] = false
-has_name n (e ∷ t) = is_name n e || has_name n t
+has_name n t = list_any (is_name n) t
 
 -- the number has a name, or the name a number
 abbrev pub taken : List (Option Name) → Name → ℕ → Bool

@@ -1,103 +1,74 @@
-ghost use Rattle.std.specs.Prelude.{◌≡◌};
-ghost use Rattle.book.specs.Add.{added, add_f, add_a, add_l, add_b};
-ghost use Rattle.book.specs.Faults.{coded};
+ghost use Rattle.std.specs.Prelude.{◌≡◌, ◌<◌, IfSome};
+ghost use Rattle.book.specs.Add.{added, add_f, number_under, rows};
+ghost use Rattle.book.specs.Sound.{reserved};
+ghost use Rattle.book.specs.Faults.{left};
 
 use crate::fields::Fields;
 use crate::patterns::{clash, pattern, pattern_length, pattern_place};
 use crate::refused::Fault;
 use crate::rows::enter;
 use crate::tables::Tables;
-use code::{a_name, b_name, format_of, l_name};
+use code::{Format, Letter};
 use text::decimal;
 
-fn add_pattern(tables: Tables, name: &[u8], value: &[u8]) -> Result<Tables, Fault>
-    ensures { coded result ≡ add_f tables name.now value.now }
+// The L numbers under which the whole words and BITL lie.
+fn is_reserved(number: u32) -> bool
+    ensures { result ≡ reserved number }
 {
-    let Some(format) = format_of(name) else {
-        return Err(Fault::Name);
-    };
-    let Some(place) = pattern_place(format) else {
-        return Err(Fault::Name);
-    };
-    let Some(v) = pattern(value, pattern_length(place)) else {
-        return Err(Fault::Value);
-    };
-    let mut t = tables;
-    if clash(place, v, &t.patterns) {
-        return Err(Fault::Repeated);
-    }
-    t.patterns[place] = Some(v);
-    Ok(t)
+    matches!(number, 18 | 22 | 23 | 39 | 55)
 }
 
-fn add_a_name(tables: Tables, name: &[u8], value: &[u8]) -> Result<Tables, Fault>
-    ensures { coded result ≡ add_a tables name.now value.now }
+// The number that a name of the letter may have.
+fn number_for(letter: Letter, value: &[u8]) -> Option<u32>
+    ensures is { result ≡ number_under letter value.now }
+    ensures within { IfSome result (λ k. k < rows letter) }
 {
-    let Some(n) = a_name(name) else {
-        return Err(Fault::Name);
-    };
-    let Some(k) = decimal(value, 16, 63) else {
-        return Err(Fault::Value);
-    };
-    let mut t = tables;
-    if enter(&mut t.a, n, k) {
-        Ok(t)
-    } else {
-        Err(Fault::Repeated)
+    match letter {
+        Letter::A => decimal(value, 16, 63),
+        Letter::L => decimal(value, 16, 63).filter(|number| !is_reserved(*number)),
+        Letter::B => decimal(value, 1, 3),
     }
 }
 
-fn add_l_name(tables: Tables, name: &[u8], value: &[u8]) -> Result<Tables, Fault>
-    ensures { coded result ≡ add_l tables name.now value.now }
-{
-    let Some(n) = l_name(name) else {
-        return Err(Fault::Name);
-    };
-    let Some(k) = decimal(value, 16, 63) else {
-        return Err(Fault::Value);
-    };
-    match k {
-        18 | 22 | 23 | 39 | 55 => Err(Fault::Value),
-        _ => {
-            let mut t = tables;
-            if enter(&mut t.l, n, k) {
-                Ok(t)
-            } else {
-                Err(Fault::Repeated)
-            }
+impl Tables {
+    fn add_pattern(&mut self, name: &[u8], value: &[u8]) -> Result<(), Fault>
+        ensures { left result self.new ≡ add_f self.old name.now value.now }
+    {
+        let format = Format::try_from(name)?;
+        let place = pattern_place(format).ok_or(Fault::Name)?;
+        let v = pattern(value, pattern_length(place)).ok_or(Fault::Value)?;
+        if clash(place, v, &self.patterns) {
+            return Err(Fault::Repeated);
+        }
+        self.patterns[place] = Some(v);
+        Ok(())
+    }
+
+    fn add_name(&mut self, letter: Letter, name: &[u8], value: &[u8]) -> Result<(), Fault>
+        ensures { left result self.new ≡ Rattle.book.specs.Add.add_name letter self.old name.now value.now }
+    {
+        let name = letter.name(name).ok_or(Fault::Name)?;
+        let number = number_for(letter, value).ok_or(Fault::Value)?;
+        match letter {
+            Letter::A => enter(&mut self.a, name, number),
+            Letter::L => enter(&mut self.l, name, number),
+            Letter::B => enter(&mut self.b, name, number),
         }
     }
-}
 
-fn add_b_name(tables: Tables, name: &[u8], value: &[u8]) -> Result<Tables, Fault>
-    ensures { coded result ≡ add_b tables name.now value.now }
-{
-    let Some(n) = b_name(name) else {
-        return Err(Fault::Name);
-    };
-    let Some(k) = decimal(value, 1, 3) else {
-        return Err(Fault::Value);
-    };
-    let mut t = tables;
-    if enter(&mut t.b, n, k) {
-        Ok(t)
-    } else {
-        Err(Fault::Repeated)
-    }
-}
-
-// The letter says which names a line may have, and how its value is read.
-pub fn add_line(tables: Tables, f: Fields) -> Result<Tables, Fault>
-    ensures { coded result ≡ added tables f.entry.letter.now f.entry.name.now f.entry.value.now }
-{
-    if f.letter.len() != 1 {
-        return Err(Fault::Name);
-    }
-    match f.letter[0] as char {
-        'F' => add_pattern(tables, f.name, f.value),
-        'A' => add_a_name(tables, f.name, f.value),
-        'L' => add_l_name(tables, f.name, f.value),
-        'B' => add_b_name(tables, f.name, f.value),
-        _ => Err(Fault::Name),
+    // The letter says which names a line may have, and how its value is read.
+    pub(crate) fn add(&mut self, f: Fields) -> Result<(), Fault>
+        ensures { left result self.new ≡ added self.old f.entry.letter.now f.entry.name.now f.entry.value.now }
+    {
+        let [letter] = f.letter else {
+            return Err(Fault::Name);
+        };
+        match *letter {
+            b'F' => self.add_pattern(f.name, f.value),
+            b'A' => self.add_name(Letter::A, f.name, f.value),
+            b'L' => self.add_name(Letter::L, f.name, f.value),
+            b'B' => self.add_name(Letter::B, f.name, f.value),
+            _ => Err(Fault::Name),
+        }
     }
 }

@@ -1,7 +1,7 @@
 ghost use Rattle.std.specs.Prelude.{◌≡◌};
 ghost use Rattle.book.specs.Columns.{three, texts};
 
-use text::{cut, find};
+use text::cut;
 
 // The three fields of a line.
 #[derive(Clone, Copy)]
@@ -17,11 +17,7 @@ pub fn fields_by_tab(line: &[u8]) -> Option<Fields<'_>>
 {
     let (letter, rest) = cut(line, b'\t')?;
     let (name, value) = cut(rest, b'\t')?;
-    if letter.is_empty()
-        || name.is_empty()
-        || value.is_empty()
-        || find(value, b'\t') < value.len()
-    {
+    if letter.is_empty() || name.is_empty() || value.is_empty() || cut(value, b'\t').is_some() {
         return None;
     }
     Some(Fields {

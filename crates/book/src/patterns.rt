@@ -1,9 +1,9 @@
 ghost use Rattle.std.specs.Prelude.{◌≡◌, ◌<◌, ◌≤◌, IfSome};
-ghost use Rattle.book.specs.Patterns.{place_of, length_at, pattern_of, begins, clashes, every};
+ghost use Rattle.book.specs.Patterns.{place_of, length_at, pattern_of, begins, meets, clashes, every};
 
 use code::Format;
 
-// The place of an A format's pattern among the five.
+// The place of an A format's pattern among the five. Below, a pattern goes by its place, since a book keeps the five in an array.
 pub fn pattern_place(format: Format) -> Option<usize>
     ensures is { result ≡ place_of format }
     ensures within { IfSome result (λ i. i < 5) }
@@ -58,27 +58,22 @@ fn begin(f: usize, v: u8, g: usize, u: u8) -> bool
     m <= n && u >> (n - m) == v
 }
 
+// Whether the pattern v of place f cannot stand beside what place g has.
+fn meet(f: usize, v: u8, g: usize, p: Option<u8>) -> bool
+    ensures { result ≡ meets f v g p }
+{
+    p.is_some_and(|u| f == g || begin(f, v, g, u) || begin(g, u, f, v))
+}
+
 // Whether the pattern v of place f cannot stand beside the patterns, since its place is taken or one begins the other.
 pub fn clash(f: usize, v: u8, patterns: &[Option<u8>]) -> bool
     ensures { result ≡ clashes f v 0 patterns.now }
 {
-    for (g, p) in patterns.iter().enumerate() {
-        if let Some(u) = *p {
-            if f == g || begin(f, v, g, u) || begin(g, u, f, v) {
-                return true;
-            }
-        }
-    }
-    false
+    patterns.iter().enumerate().any(|(g, p)| meet(f, v, g, *p))
 }
 
 pub fn complete(patterns: &[Option<u8>]) -> bool
     ensures { result ≡ every patterns.now }
 {
-    for p in patterns {
-        if p.is_none() {
-            return false;
-        }
-    }
-    true
+    patterns.iter().all(|p| p.is_some())
 }

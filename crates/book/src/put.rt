@@ -4,9 +4,11 @@ ghost use Rattle.book.specs.Put.{number_in, v_limit, m_limit, d_limit, word_a, p
 ghost use Rattle.book.specs.Laws.{Reads};
 
 use crate::book::Book;
+use crate::patterns::pattern_place;
+use crate::rows::place_of;
 use crate::unput::Unput;
 use crate::whole::{is_branch, word_of_name};
-use code::{Format, Name, rank_of};
+use code::{Format, Name};
 use word::{join, signed_field, unsigned_field};
 
 fn number_of(table: &[Option<Name>], name: Name) -> Option<u16>
@@ -14,16 +16,8 @@ fn number_of(table: &[Option<Name>], name: Name) -> Option<u16>
     ensures is { result ≡ number_in name 0 table.now }
     ensures within { IfSome result (λ k. k < 64) }
 {
-    let mut i = 0;
-    for entry in table {
-        if let Some(other) = *entry {
-            if rank_of(other) == rank_of(name) {
-                return Some(i);
-            }
-        }
-        i += 1;
-    }
-    None
+    let place = place_of(table, name)?;
+    Some(place as u16)
 }
 
 fn m_values(format: Format) -> u16
@@ -63,44 +57,29 @@ fn lay_a(format: Format, number: u16, pattern: u16, m: u16, d: u16) -> u16
     }
 }
 
+// Name, format, M and D stay apart, as a reading keeps them together: M and D are any numbers here, and only those that fit make a word.
 impl Book {
     fn pattern_of(&self, format: Format) -> Option<u8>
         ensures { result ≡ pattern_at self.now.tables format }
     {
-        match format {
-            Format::A1 => self.tables.patterns[0],
-            Format::A2 => self.tables.patterns[1],
-            Format::A3 => self.tables.patterns[2],
-            Format::A4 => self.tables.patterns[3],
-            Format::A5 => self.tables.patterns[4],
-            Format::L | Format::B => None,
-        }
+        let place = pattern_place(format)?;
+        self.tables.patterns[place]
     }
 
     fn put_a(&self, name: Name, format: Format, m: i32, d: i32) -> Result<u16, Unput>
         ensures { answered result ≡ Rattle.book.specs.Put.put_a self.now.tables name format m d }
     {
-        let Some(number) = number_of(&self.tables.a, name) else {
-            return Err(Unput::Unavailable);
-        };
-        let Some(pattern) = self.pattern_of(format) else {
-            return Err(Unput::Unavailable);
-        };
-        let Some(m) = unsigned_field(m, m_values(format)) else {
-            return Err(Unput::Unfit);
-        };
-        let Some(d) = unsigned_field(d, d_values(format)) else {
-            return Err(Unput::Unfit);
-        };
+        let number = number_of(&self.tables.a, name).ok_or(Unput::Unavailable)?;
+        let pattern = self.pattern_of(format).ok_or(Unput::Unavailable)?;
+        let m = unsigned_field(m, m_values(format)).ok_or(Unput::Unfit)?;
+        let d = unsigned_field(d, d_values(format)).ok_or(Unput::Unfit)?;
         Ok(lay_a(format, number, pattern as u16, m, d))
     }
 
     fn put_b(&self, name: Name, m: i32, d: i32) -> Result<u16, Unput>
         ensures { answered result ≡ Rattle.book.specs.Put.put_b self.now.tables name m d }
     {
-        let Some(number) = number_of(&self.tables.b, name) else {
-            return Err(Unput::Unavailable);
-        };
+        let number = number_of(&self.tables.b, name).ok_or(Unput::Unavailable)?;
         match signed_field(d, 512) {
             Some(d) if m == 0 => Ok(join(number, 10, d)),
             _ => Err(Unput::Unfit),
@@ -123,9 +102,7 @@ impl Book {
                 _ => Err(Unput::Unfit),
             };
         }
-        let Some(number) = number_of(&self.tables.l, name) else {
-            return Err(Unput::Unavailable);
-        };
+        let number = number_of(&self.tables.l, name).ok_or(Unput::Unavailable)?;
         let field = if is_branch(name) {
             signed_field(d, 128)
         } else {

@@ -1,14 +1,31 @@
-ghost use Rattle.std.specs.Prelude.{◌≡◌};
-ghost use Rattle.book.specs.Faults.{spoken, numbered};
-ghost use Rattle.book.specs.Read.{new_tables, read_rule, told, kept};
+ghost use Rattle.std.specs.Prelude.{◌≡◌, Ok};
+ghost use Rattle.book.specs.Faults.{spoken, numbered, left, left_at};
+ghost use Rattle.book.specs.Read.{new_tables, read_rule, line_rule, then_go, told, kept};
 
-use crate::add::add_line;
 use crate::book::Book;
 use crate::fields::fields_by_tab;
 use crate::patterns::complete;
 use crate::refused::{Fault, Refused};
 use crate::tables::Tables;
 use text::{Line, Lines};
+
+// Takes up what a line says.
+fn add_line(tables: &mut Tables, line: &[u8]) -> Result<(), Fault>
+    ensures { left result tables.new ≡ line_rule tables.old line.now }
+{
+    let fields = fields_by_tab(line).ok_or(Fault::Fields)?;
+    tables.add(fields)
+}
+
+// The same, with the line at which a refusal lies.
+fn take_line(tables: &mut Tables, line: Line) -> Result<(), Refused>
+    ensures { left_at result tables.new ≡ then_go line.entry.number (line_rule tables.old line.entry.text.now) Ok }
+{
+    add_line(tables, line.text).map_err(|fault| Refused {
+        fault,
+        line: line.number,
+    })
+}
 
 fn read_text(text: &[u8]) -> Result<Tables, Refused>
     ensures { spoken result ≡ read_rule text.now }
@@ -20,34 +37,16 @@ fn read_text(text: &[u8]) -> Result<Tables, Refused>
         b: [None; 4],
         patterns: [None; 5],
     };
-    'lines: loop {
-        let line = lines.line;
-        match lines.next_line() {
-            Line::Unended => return Err(Refused {
-                fault: Fault::Fields,
-                line,
-            }),
-            Line::End => return if complete(&tables.patterns) {
-                Ok(tables)
-            } else {
-                Err(Refused {
-                    fault: Fault::Missing,
-                    line,
-                })
-            },
-            Line::Text(s) => {
-                let Some(f) = fields_by_tab(s) else {
-                    return Err(Refused {
-                        fault: Fault::Fields,
-                        line,
-                    });
-                };
-                match add_line(tables, f) {
-                    Ok(t) => tables = t,
-                    Err(fault) => return Err(Refused { fault, line }),
-                }
-            }
-        }
+    'lines: while let Some(line) = lines.next_line()? {
+        take_line(&mut tables, line)?;
+    }
+    if complete(&tables.patterns) {
+        Ok(tables)
+    } else {
+        Err(Refused {
+            fault: Fault::Missing,
+            line: lines.line,
+        })
     }
 }
 
@@ -71,12 +70,7 @@ impl Book {
         ensures answer { numbered result ≡ told (read_rule text.now) }
         ensures after { self.new.tables ≡ kept self.old.tables (read_rule text.now) }
     {
-        match read_text(text) {
-            Ok(t) => {
-                self.tables = t;
-                Ok(())
-            }
-            Err(e) => Err(e),
-        }
+        self.tables = read_text(text)?;
+        Ok(())
     }
 }

@@ -1,6 +1,7 @@
 ghost use Rattle.std.specs.Prelude.{◌≡◌, ◌/◌, ◌%◌, ◌<◌};
 ghost use Rattle.book.specs.Readings.{fits, pick, m_of, d_of, in_l, in_a, meaning, reading};
 ghost use Rattle.book.specs.Laws.{Laid, Sole, Backs};
+ghost use Rattle.code.specs.declared.reading.Reading.TheVariants.{Defined};
 
 use crate::book::Book;
 use crate::tables::Tables;
@@ -11,13 +12,10 @@ use word::{low, middle, signed};
 fn begins(pattern: Option<u8>, bits: u16) -> bool
     ensures { result ≡ fits pattern bits }
 {
-    match pattern {
-        None => false,
-        Some(v) => v as u16 == bits,
-    }
+    pattern.is_some_and(|v| v as u16 == bits)
 }
 
-// The format whose pattern begins the four bits.
+// The format whose pattern begins the four bits. A test for each, since each pattern has its own number of bits.
 fn format_at(patterns: &[Option<u8>; 5], bits: u16) -> Option<Format>
     ensures { result ≡ pick patterns.now bits }
 {
@@ -68,12 +66,24 @@ fn read_a(tables: &Tables, word: u16) -> Reading
     };
     match tables.a[(word >> 10) as usize] {
         None => Reading::Undefined,
-        Some(name) => Reading::Defined(
+        Some(name) => Reading::Defined {
             name,
             format,
-            m_field(format, word),
-            d_field(format, word) as i16,
-        ),
+            m: m_field(format, word),
+            d: d_field(format, word) as i16,
+        },
+    }
+}
+
+// The reading of a word that has neither a pattern nor M.
+fn plain(name: Name, format: Format, d: i16) -> Reading
+    ensures { result ≡ Defined name format 0 d }
+{
+    Reading::Defined {
+        name,
+        format,
+        m: 0,
+        d,
     }
 }
 
@@ -82,18 +92,19 @@ fn read_l(tables: &Tables, word: u16) -> Reading
     ensures { result ≡ in_l tables.now word }
 {
     if let Some(name) = whole_word(word) {
-        return Reading::Defined(name, Format::L, 0, 0);
+        return plain(name, Format::L, 0);
     }
     let number = word >> 8;
     let d = low(word, 8);
     if number == 22 {
-        return Reading::Defined(Name::Bitl, Format::L, 0, d as i16);
+        return plain(Name::Bitl, Format::L, d as i16);
     }
+    // Bound first: the check covers no match with a guard on an array's element.
     let entry = tables.l[number as usize];
     match entry {
         None => Reading::Undefined,
-        Some(name) if is_branch(name) => Reading::Defined(name, Format::L, 0, signed(d, 128)),
-        Some(name) => Reading::Defined(name, Format::L, 0, d as i16),
+        Some(name) if is_branch(name) => plain(name, Format::L, signed(d, 128)),
+        Some(name) => plain(name, Format::L, d as i16),
     }
 }
 
@@ -104,7 +115,7 @@ fn read_word(tables: &Tables, word: u16) -> Reading
         0..=0x03ff => Reading::Undefined,
         0x0400..=0x0fff => match tables.b[(word >> 10) as usize] {
             None => Reading::Undefined,
-            Some(name) => Reading::Defined(name, Format::B, 0, signed(low(word, 10), 512)),
+            Some(name) => plain(name, Format::B, signed(low(word, 10), 512)),
         },
         0x1000..=0x3fff => read_l(tables, word),
         0x4000..=0xffff => read_a(tables, word),

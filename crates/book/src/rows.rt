@@ -1,30 +1,39 @@
-ghost use Rattle.std.specs.Prelude.{◌≡◌, ◌<◌, not, length, if◌then◌else◌, Some, slice_set};
-ghost use Rattle.book.specs.Rows.{has_name, taken};
+ghost use Rattle.std.specs.Prelude.{◌≡◌, ◌<◌, length, position, if◌then◌else◌, IfSome, Some, Ok, Err, slice_set};
+ghost use Rattle.book.specs.Rows.{is_name, has_name, taken};
+ghost use Rattle.book.specs.declared.refused.Fault.TheVariants.{Repeated};
 
-use code::{Name, rank_of};
+use crate::refused::Fault;
+use code::Name;
 
-pub fn has(table: &[Option<Name>], name: Name) -> bool
-    ensures { result ≡ has_name name table.now }
+fn is_entry(entry: &Option<Name>, name: Name) -> bool
+    ensures { result ≡ is_name name entry.now }
 {
-    for entry in table {
-        if let Some(other) = *entry {
-            if rank_of(other) == rank_of(name) {
-                return true;
-            }
-        }
-    }
-    false
+    *entry == Some(name)
 }
 
-// Enters the name at its number, and says whether both were free.
-pub fn enter(table: &mut [Option<Name>], name: Name, number: u32) -> bool
+fn has(table: &[Option<Name>], name: Name) -> bool
+    ensures { result ≡ has_name name table.now }
+{
+    table.iter().any(|entry| is_entry(entry, name))
+}
+
+// The place of the name in the table.
+pub fn place_of(table: &[Option<Name>], name: Name) -> Option<usize>
+    ensures is { result ≡ position (is_name name) table.now }
+    ensures within { IfSome result (λ k. k < length table.now) }
+{
+    table.iter().position(|entry| is_entry(entry, name))
+}
+
+// Enters the name at its number, if both are free.
+pub fn enter(table: &mut [Option<Name>], name: Name, number: u32) -> Result<(), Fault>
     requires { number < length table.old }
-    ensures answer { result ≡ not (taken table.old name number) }
+    ensures answer { result ≡ (if taken table.old name number then Err Repeated else Ok tt) }
     ensures after { table.new ≡ (if taken table.old name number then table.old else slice_set table.old number (Some name)) }
 {
     if table[number as usize].is_some() || has(table, name) {
-        return false;
+        return Err(Fault::Repeated);
     }
     table[number as usize] = Some(name);
-    true
+    Ok(())
 }

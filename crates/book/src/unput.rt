@@ -1,20 +1,21 @@
 ghost use Rattle.std.specs.Prelude.{◌≡◌};
 ghost use Rattle.book.specs.Put.{unput_number};
 
+use thiserror::Error;
+
 // Why a word cannot be put together: the book has no such instruction, or M or D does not fit.
-#[derive(Clone, Copy)]
+#[derive(Clone, Copy, PartialEq, Eq, Debug, Error)]
 pub enum Unput {
-    Unavailable,
-    Unfit,
+    #[error("refused with 21: the code book has no such instruction")]
+    Unavailable = 21,
+    #[error("refused with 22: M or D does not fit")]
+    Unfit = 22,
 }
 
 impl Unput {
     pub fn number(self) -> u8
         ensures { result ≡ unput_number self }
     {
-        match self {
-            Unput::Unavailable => 21,
-            Unput::Unfit => 22,
-        }
+        self as u8
     }
 }

@@ -2,51 +2,60 @@
 #![tactic(auto)]
 
 mod answer;
-mod words;
+mod case;
+mod changes;
+mod hex;
+mod image;
+mod unread;
+mod values;
 
-use answer::answer_line;
-use anyhow::anyhow;
+use anyhow::{Context, anyhow, bail};
 use book::Book;
+use case::Case;
 use std::io::Read;
 use std::{env, fs};
-use text::{Line, Lines};
+use text::{Line, Lines, Unended};
+use unread::Unread;
 
 fn read_cases(rt: &HostRuntime) -> anyhow::Result<Vec<u8>> {
     let mut cases = Vec::new(rt.alloc());
-    let mut input = rt.stdin();
-    let _count = input.read_to_end(&mut cases)?;
+    let _count = rt.stdin().read_to_end(&mut cases)?;
     Ok(cases)
 }
 
 fn read_book(rt: &HostRuntime) -> anyhow::Result<Book> {
-    let mut words = env::args(rt)?;
-    let _program = words.next();
-    let Some(name) = words.next() else {
-        return Err(anyhow!("use: cases BOOK < CASES"));
-    };
+    let name = env::args(rt)?.nth(1).context("use: cases BOOK < CASES")?;
     let text = fs::read(rt, name.as_str())?;
     let mut book = Book::new();
-    match book.read(&text) {
-        Ok(()) => Ok(book),
-        Err(_) => Err(anyhow!("the code book is refused")),
+    book.read(&text)
+        .map_err(|_| anyhow!("the code book is refused"))?;
+    Ok(book)
+}
+
+// Blank lines and comments say nothing.
+fn answer_line(rt: &HostRuntime, book: &Book, line: Line) -> anyhow::Result<()> {
+    let Line { number, text } = line;
+    if matches!(text, [] | [b'#', ..]) {
+        return Ok(());
     }
+    match Case::read(rt.alloc(), text) {
+        Ok(case) => case.answer(rt, book)?,
+        Err(Unread::NoCase) => bail!("line {number} is no case"),
+        Err(Unread::OutOfMemory(e)) => return Err(e.into()),
+    }
+    Ok(())
+}
+
+fn unended(_line: Unended) -> anyhow::Error {
+    anyhow!("the last line lacks its line feed")
 }
 
 fn answer_all(rt: &HostRuntime) -> anyhow::Result<()> {
     let book = read_book(rt)?;
     let cases = read_cases(rt)?;
     let mut lines = Lines::new(&cases);
-    for _ in 0..=cases.len() {
-        let number = lines.line;
-        match lines.next_line() {
-            Line::Text(line) => {
-                if !answer_line(rt, &book, line)? {
-                    return Err(anyhow!(format!(in rt.alloc(); "line {number} is no case")?));
-                }
-            }
-            Line::Unended => return Err(anyhow!("the last line lacks its line feed")),
-            Line::End => break,
-        }
+    'lines: while let Some(line) = lines.next_line().map_err(unended)? {
+        answer_line(rt, &book, line)?;
     }
     Ok(())
 }

@@ -1,6 +1,8 @@
-use Rattle.std.specs.Prelude.{ℕ, List, [], ◌∷◌, codes, Option}
+use Rattle.std.specs.Prelude.{ℕ, List, [], ◌∷◌, codes, Option, Result}
+use Rattle.std.specs.Option.{ok_or}
 use Rattle.code.specs.Spelling.{first}
 use Rattle.code.specs.declared.format.Format.{Format}
+use Rattle.code.specs.declared.format.UnknownFormat.{UnknownFormat}
 use Rattle.code.specs.declared.format.Format.TheVariants.{A1, A2, A3, A4, A5, L, B}
 
 -- how a format is written
@@ -16,5 +18,10 @@ spelled B = codes "B"
 abbrev pub formats : List Format
 formats = A1 ∷ A2 ∷ A3 ∷ A4 ∷ A5 ∷ L ∷ B ∷ []
 
+-- the format that is spelled so
 unfoldable pub format_of : List ℕ → Option Format
 format_of s = first spelled formats s
+
+-- the same, or that there is none
+abbrev pub format_read : List ℕ → Result Format UnknownFormat
+format_read s = ok_or (format_of s) (record {})

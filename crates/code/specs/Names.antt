@@ -1,7 +1,12 @@
-use Rattle.std.specs.Prelude.{ℕ, List, [], ◌∷◌, codes, Option}
-use Rattle.std.specs.Option.{option_or}
+use Rattle.std.specs.Prelude.{ℕ, List, [], ◌∷◌, codes, Option, Result}
+use Rattle.std.specs.Option.{option_or, ok_or}
 use Rattle.code.specs.Spelling.{first}
+use denote.Enum.Declared.{tag_of}
+use Rattle.code.specs.contracts.name.Name.{the_type}
+use Rattle.code.specs.declared.letter.Letter.{Letter}
+use Rattle.code.specs.declared.letter.Letter.TheVariants as letter
 use Rattle.code.specs.declared.name.Name.{Name}
+use Rattle.code.specs.declared.name.UnknownName.{UnknownName}
 use Rattle.code.specs.declared.name.Name.TheVariants.{Ldb, Ld, Ldw, Ldx, Stb, St, Stw, Stx, Ad, Adw, Sb, Sbw, Adx, Sbx, Cp, Cpw, Cpx, Nw, Nx, Mx, Dx, Ldy, Sty, Ady, Sby, Ldz, Stz, Adz, Sbz, Bi, Bli, Ldl, Adl, Sbl, Cpl, Nl, Ml, Bitx, Bz, Bnz, Bn, Bnn, Bca, Bof, B, Bl, Mbs, Cpbs, Trbs, Scbs, Mhs, Rk, Hrk, Sfn, Sim, Sfm, Bitl}
 
 -- how a name is written
@@ -64,65 +69,9 @@ spelled Sim = codes "SIM"
 spelled Sfm = codes "SFM"
 spelled Bitl = codes "BITL"
 
--- the place of a name among all names, which tells names apart
+-- the place of a name among all names, in the order in which the enum has them, which tells names apart
 abbrev pub rank : Name → ℕ
-rank Ldb = 0
-rank Ld = 1
-rank Ldw = 2
-rank Ldx = 3
-rank Stb = 4
-rank St = 5
-rank Stw = 6
-rank Stx = 7
-rank Ad = 8
-rank Adw = 9
-rank Sb = 10
-rank Sbw = 11
-rank Adx = 12
-rank Sbx = 13
-rank Cp = 14
-rank Cpw = 15
-rank Cpx = 16
-rank Nw = 17
-rank Nx = 18
-rank Mx = 19
-rank Dx = 20
-rank Ldy = 21
-rank Sty = 22
-rank Ady = 23
-rank Sby = 24
-rank Ldz = 25
-rank Stz = 26
-rank Adz = 27
-rank Sbz = 28
-rank Bi = 29
-rank Bli = 30
-rank Ldl = 31
-rank Adl = 32
-rank Sbl = 33
-rank Cpl = 34
-rank Nl = 35
-rank Ml = 36
-rank Bitx = 37
-rank Bz = 38
-rank Bnz = 39
-rank Bn = 40
-rank Bnn = 41
-rank Bca = 42
-rank Bof = 43
-rank B = 44
-rank Bl = 45
-rank Mbs = 46
-rank Cpbs = 47
-rank Trbs = 48
-rank Scbs = 49
-rank Mhs = 50
-rank Rk = 51
-rank Hrk = 52
-rank Sfn = 53
-rank Sim = 54
-rank Sfm = 55
-rank Bitl = 56
+rank n = tag_of the_type n
 
 abbrev pub names_a : List Name
 names_a = Ldb ∷ Ld ∷ Ldw ∷ Ldx ∷ Stb ∷ St ∷ Stw ∷ Stx ∷ Ad ∷ Adw ∷ Sb ∷ Sbw ∷ Adx ∷ Sbx ∷ Cp ∷ Cpw ∷ Cpx ∷ Nw ∷ Nx ∷ Mx ∷ Dx ∷ Ldy ∷ Sty ∷ Ady ∷ Sby ∷ Ldz ∷ Stz ∷ Adz ∷ Sbz ∷ Bi ∷ Bli ∷ []
@@ -137,14 +86,24 @@ names_b = B ∷ Bl ∷ []
 abbrev pub names_fixed : List Name
 names_fixed = Mbs ∷ Cpbs ∷ Trbs ∷ Scbs ∷ Mhs ∷ Rk ∷ Hrk ∷ Sfn ∷ Sim ∷ Sfm ∷ Bitl ∷ []
 
-unfoldable pub name_a : List ℕ → Option Name
-name_a s = first spelled names_a s
+-- the names that a letter has in a code book
+abbrev pub names_of : Letter → List Name
+names_of letter.A = names_a
+names_of letter.L = names_l
+names_of letter.B = names_b
 
-unfoldable pub name_l : List ℕ → Option Name
-name_l s = first spelled names_l s
+-- the name of a letter that is spelled so
+unfoldable pub named : Letter → List ℕ → Option Name
+named l s = first spelled (names_of l) s
 
-unfoldable pub name_b : List ℕ → Option Name
-name_b s = first spelled names_b s
+abbrev pub name_a : List ℕ → Option Name
+name_a s = named letter.A s
+
+abbrev pub name_l : List ℕ → Option Name
+name_l s = named letter.L s
+
+abbrev pub name_b : List ℕ → Option Name
+name_b s = named letter.B s
 
 unfoldable pub name_fixed : List ℕ → Option Name
 name_fixed s = first spelled names_fixed s
@@ -152,3 +111,7 @@ name_fixed s = first spelled names_fixed s
 -- the name that is spelled so, of all
 abbrev pub name_of : List ℕ → Option Name
 name_of s = option_or (option_or (option_or (name_a s) (name_l s)) (name_b s)) (name_fixed s)
+
+-- the same, or that there is none
+abbrev pub name_read : List ℕ → Result Name UnknownName
+name_read s = ok_or (name_of s) (record {})

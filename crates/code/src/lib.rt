@@ -1,13 +1,13 @@
 #![tactic(auto)]
 
 mod format;
-mod formats;
+mod letter;
 mod name;
-mod names;
 mod reading;
+mod spelled;
 
-pub use format::Format;
-pub use formats::{format_of, format_spelling};
-pub use name::Name;
-pub use names::{a_name, b_name, l_name, name_of, rank_of, spelling};
+pub use format::{Format, UnknownFormat};
+pub use letter::Letter;
+pub use name::{Name, UnknownName};
 pub use reading::Reading;
+pub use spelled::{Spelled, first_spelled};

@@ -4,15 +4,10 @@
 mod compare;
 mod work;
 
+use inputs::ended;
 use std::process::ExitCode;
 use work::demonstrate;
 
 fn main(rt: HostRuntime) -> ExitCode {
-    match demonstrate(&rt) {
-        Ok(()) => ExitCode::SUCCESS,
-        Err(e) => {
-            let _ = eprintln!(rt; "demo: {e}");
-            ExitCode::FAILURE
-        }
-    }
+    ended(&rt, "demo", demonstrate(&rt))
 }

@@ -1,13 +1,13 @@
-ghost use Rattle.bays.specs.declared.stage.Stage.{Stage};
 ghost use Rattle.history.specs.Calls.{answered, call, copied, copy, done, load, look, own, set_all, shown, stop_told, turn, turned};
-ghost use Rattle.history.specs.Hall.{apply, hall_of};
-ghost use Rattle.std.specs.Prelude.{◌≡◌, length, Ok, Err};
+ghost use Rattle.history.specs.Hall.{apply};
+ghost use Rattle.std.specs.Prelude.{◌≡◌, length, OnErr};
+ghost use Rattle.bays.specs.declared.stage.Stage.{Stage};
 
 use crate::hall::Hall;
-use crate::handle::{Handle, Sealed};
+use crate::handle::{AtStage, Handle, Sealed};
 use crate::shown::Shown;
-use access::{Access, reaches};
-use bays::{BayRecord, Refusal, Stage, is_at};
+use access::Access;
+use bays::{BayRecord, Refusal};
 use machine::Registers;
 use store::{Store, read_all, write_all};
 use turns::Turned;
@@ -15,15 +15,17 @@ use turns::Turned;
 // The calls that act on a bay's own registers and granted bytes.
 impl<S: Store> Hall<S> {
     // Bytes into the store, all of them under the bay's write grants.
-    pub fn load<H: Handle>(&mut self, handle: &H, address: u16, bytes: &[u8]) -> Result<(), Refusal>
-        ensures answer { answered (λ _. done) (λ e. e) result ≡ (apply (call (H.Handle.named handle.now) (H.Handle.wanted handle.now) (own (load address bytes.now))) (hall_of self.old.book self.old.table (S.Store.bytes self.old.store))).answer }
-        ensures after { hall_of self.new.book self.new.table (S.Store.bytes self.new.store) ≡ (apply (call (H.Handle.named handle.now) (H.Handle.wanted handle.now) (own (load address bytes.now))) (hall_of self.old.book self.old.table (S.Store.bytes self.old.store))).hall }
+    pub fn load<K: AtStage>(
+        &mut self,
+        handle: &Handle<K>,
+        address: u16,
+        bytes: &[u8],
+    ) -> Result<(), Refusal>
+        ensures answer { answered (λ _. done) (λ e. e) result ≡ (apply (call handle.now.bay K.STAGE (own (load address bytes.now))) self.old).answer }
+        ensures after { self.new ≡ (apply (call handle.now.bay K.STAGE (own (load address bytes.now))) self.old).hall }
     {
-        let record = self.table.bay(handle.bay());
-        if !is_at(handle.stage(), record.stage) {
-            return Err(Refusal::OtherStage);
-        }
-        if !reaches(&record.bay, Access::Write, address, bytes.len()) {
+        let record = self.entered(handle)?;
+        if !record.bay.reaches(Access::Write, address, bytes.len()) {
             return Err(Refusal::Ungranted);
         }
         write_all(&mut self.store, address, bytes);
@@ -31,17 +33,17 @@ impl<S: Store> Hall<S> {
     }
 
     // All registers and markers; a stop that stands is lifted.
-    pub fn set<H: Handle>(&mut self, handle: &H, registers: Registers) -> Result<(), Refusal>
-        ensures answer { answered (λ _. done) (λ e. e) result ≡ (apply (call (H.Handle.named handle.now) (H.Handle.wanted handle.now) (own (set_all registers))) (hall_of self.old.book self.old.table (S.Store.bytes self.old.store))).answer }
-        ensures after { hall_of self.new.book self.new.table (S.Store.bytes self.new.store) ≡ (apply (call (H.Handle.named handle.now) (H.Handle.wanted handle.now) (own (set_all registers))) (hall_of self.old.book self.old.table (S.Store.bytes self.old.store))).hall }
+    pub fn set<K: AtStage>(
+        &mut self,
+        handle: &Handle<K>,
+        registers: Registers,
+    ) -> Result<(), Refusal>
+        ensures answer { answered (λ _. done) (λ e. e) result ≡ (apply (call handle.now.bay K.STAGE (own (set_all registers))) self.old).answer }
+        ensures after { self.new ≡ (apply (call handle.now.bay K.STAGE (own (set_all registers))) self.old).hall }
     {
-        let number = handle.bay();
-        let record = self.table.bay(number);
-        if !is_at(handle.stage(), record.stage) {
-            return Err(Refusal::OtherStage);
-        }
+        let record = self.entered(handle)?;
         self.table.put(
-            number,
+            handle.bay,
             BayRecord {
                 registers,
                 stop: None,
@@ -53,13 +55,10 @@ impl<S: Store> Hall<S> {
 
     // Steps up to the budget or a stop, which then stands; under a standing stop none, and that stop.
     pub fn turn(&mut self, handle: &Sealed, budget: u16) -> Result<Turned, Refusal>
-        ensures answer { answered (λ t. turned t.steps (stop_told t.stop)) (λ e. e) result ≡ (apply (call handle.now.bay Stage.Sealed (own (turn budget))) (hall_of self.old.book self.old.table (S.Store.bytes self.old.store))).answer }
-        ensures after { hall_of self.new.book self.new.table (S.Store.bytes self.new.store) ≡ (apply (call handle.now.bay Stage.Sealed (own (turn budget))) (hall_of self.old.book self.old.table (S.Store.bytes self.old.store))).hall }
+        ensures answer { answered (λ t. turned t.steps (stop_told t.stop)) (λ e. e) result ≡ (apply (call handle.now.bay Stage.Sealed (own (turn budget))) self.old).answer }
+        ensures after { self.new ≡ (apply (call handle.now.bay Stage.Sealed (own (turn budget))) self.old).hall }
     {
-        let record = self.table.bay(handle.bay);
-        if !is_at(Stage::Sealed, record.stage) {
-            return Err(Refusal::OtherStage);
-        }
+        let record = self.entered(handle)?;
         if let Some(stop) = record.stop {
             return Ok(Turned {
                 steps: 0,
@@ -86,14 +85,11 @@ impl<S: Store> Hall<S> {
     }
 
     // Registers, markers and stop.
-    pub fn look<H: Handle>(&self, handle: &H) -> Result<Shown, Refusal>
-        ensures answer { answered (λ s. shown s.registers (stop_told s.stop)) (λ e. e) result ≡ (apply (call (H.Handle.named handle.now) (H.Handle.wanted handle.now) (own look)) (hall_of self.now.book self.now.table (S.Store.bytes self.now.store))).answer }
-        ensures after { hall_of self.now.book self.now.table (S.Store.bytes self.now.store) ≡ (apply (call (H.Handle.named handle.now) (H.Handle.wanted handle.now) (own look)) (hall_of self.now.book self.now.table (S.Store.bytes self.now.store))).hall }
+    pub fn look<K: AtStage>(&self, handle: &Handle<K>) -> Result<Shown, Refusal>
+        ensures answer { answered (λ s. shown s.registers (stop_told s.stop)) (λ e. e) result ≡ (apply (call handle.now.bay K.STAGE (own look)) self.now).answer }
+        ensures after { self.now ≡ (apply (call handle.now.bay K.STAGE (own look)) self.now).hall }
     {
-        let record = self.table.bay(handle.bay());
-        if !is_at(handle.stage(), record.stage) {
-            return Err(Refusal::OtherStage);
-        }
+        let record = self.entered(handle)?;
         Ok(Shown {
             registers: record.registers,
             stop: record.stop,
@@ -101,21 +97,18 @@ impl<S: Store> Hall<S> {
     }
 
     // A buffer filled from an address on, where the bay's grants have all its bytes.
-    pub fn copy<H: Handle>(
+    pub fn copy<K: AtStage>(
         &self,
-        handle: &H,
+        handle: &Handle<K>,
         address: u16,
         buffer: &mut [u8],
     ) -> Result<(), Refusal>
-        ensures answer { answered (λ _. copied buffer.new) (λ e. e) result ≡ (apply (call (H.Handle.named handle.now) (H.Handle.wanted handle.now) (own (copy address (length buffer.old)))) (hall_of self.now.book self.now.table (S.Store.bytes self.now.store))).answer }
-        ensures after { hall_of self.now.book self.now.table (S.Store.bytes self.now.store) ≡ (apply (call (H.Handle.named handle.now) (H.Handle.wanted handle.now) (own (copy address (length buffer.old)))) (hall_of self.now.book self.now.table (S.Store.bytes self.now.store))).hall }
-        ensures kept { elim result [ Ok u ↦ Unit {0} | Err e ↦ buffer.new ≡ buffer.old ] }
+        ensures answer { answered (λ _. copied buffer.new) (λ e. e) result ≡ (apply (call handle.now.bay K.STAGE (own (copy address (length buffer.old)))) self.now).answer }
+        ensures after { self.now ≡ (apply (call handle.now.bay K.STAGE (own (copy address (length buffer.old)))) self.now).hall }
+        ensures kept { OnErr result (buffer.new ≡ buffer.old) }
     {
-        let record = self.table.bay(handle.bay());
-        if !is_at(handle.stage(), record.stage) {
-            return Err(Refusal::OtherStage);
-        }
-        if !reaches(&record.bay, Access::Read, address, buffer.len()) {
+        let record = self.entered(handle)?;
+        if !record.bay.reaches(Access::Read, address, buffer.len()) {
             return Err(Refusal::Ungranted);
         }
         read_all(&self.store, address, buffer);

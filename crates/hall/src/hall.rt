@@ -1,9 +1,12 @@
-ghost use Rattle.history.specs.Hall.{hall_of, new};
+ghost use Rattle.bays.specs.Bays;
+ghost use Rattle.history.specs.Hall.{new};
 ghost use Rattle.history.specs.Laws.{Confinement, Exchange, Isolation, Order};
 ghost use Rattle.std.specs.Prelude.{◌≡◌};
 
-use bays::Table;
+use crate::handle::{AtStage, Handle};
+use bays::{BayRecord, Refusal, Table};
 use book::Book;
+use std::marker::Model;
 use store::Store;
 
 // A store and a book, and eight bays.
@@ -14,11 +17,18 @@ pub struct Hall<S: Store> {
     pub(crate) table: Table,
 }
 
+// A hall is seen as calls see it.
+impl<S: Store> Model for Hall<S> {
+    ghost Value = { Rattle.history.specs.Hall.Hall };
+
+    ghost view = { λ h. record { book = h.book; bays = h.table.bays; bytes = S.Store.bytes h.store } };
+}
+
 impl<S: Store> Hall<S> {
     // A hall with eight free bays. What is promised here of every history holds of the calls below,
     // whose contracts cite the same definitions.
     pub fn new(store: S, book: Book) -> Hall<S>
-        ensures made { hall_of result.book result.table (S.Store.bytes result.store) ≡ new book (S.Store.bytes store) }
+        ensures made { result ≡ new book (S.Store.bytes store) }
         ensures isolation { Isolation }
         ensures order { Order }
         ensures exchange { Exchange }
@@ -29,5 +39,12 @@ impl<S: Store> Hall<S> {
             book,
             table: Table::new(),
         }
+    }
+
+    // The bay that a handle names, if it is at the handle's stage.
+    pub(crate) fn entered<K: AtStage>(&self, handle: &Handle<K>) -> Result<BayRecord, Refusal>
+        ensures { result ≡ Rattle.bays.specs.Bays.entered K.STAGE self.now.bays handle.now.bay }
+    {
+        self.table.entered(handle.bay, K::STAGE)
     }
 }

@@ -1,90 +1,79 @@
-ghost use Rattle.std.specs.Prelude.{◌≡◌, ℕ};
 ghost use Rattle.bays.specs.declared.stage.Stage.{Stage};
+ghost use Rattle.std.specs.Prelude.{◌≡◌};
 
 use bays::Stage;
+use std::marker::PhantomData;
 
-// The handle of a bay in preparation. One that names bay 0 is spent, and only such a one may be let go:
-// every other must be given to `seal` or `close`.
-pub struct Preparing {
-    pub(crate) bay: u8,
+// What a handle's type says of it: the stage that it finds its bay at.
+pub trait AtStage {
+    ghost STAGE: { Stage };
+
+    const STAGE: Stage;
 }
 
-impl Drop for Preparing {
+pub struct InPreparation;
+
+impl AtStage for InPreparation {
+    ghost STAGE = { Stage.Preparing };
+
+    const STAGE: Stage = Stage::Preparing;
+}
+
+pub struct UnderSeal;
+
+impl AtStage for UnderSeal {
+    ghost STAGE = { Stage.Sealed };
+
+    const STAGE: Stage = Stage::Sealed;
+}
+
+// The handle of a bay. One that names bay 0 is spent, and only such a one may be let go: every other must
+// be given to `seal` or `close`. With an `Option` for the bay, each call's contract would have to say what a
+// spent handle names, though no caller ever has one.
+pub struct Handle<K: AtStage> {
+    pub(crate) bay: u8,
+    at: PhantomData<K>,
+}
+
+// The handle of a bay in preparation.
+pub type Preparing = Handle<InPreparation>;
+
+// The handle of a sealed bay.
+pub type Sealed = Handle<UnderSeal>;
+
+impl<K: AtStage> Drop for Handle<K> {
     fn drop(self)
         requires { self.bay ≡ 0 }
     {
-        let Preparing { bay: _ } = self;
+        let Handle { bay: _, at: _ } = self;
     }
 }
 
-// The handle of a sealed bay, likewise.
-pub struct Sealed {
-    pub(crate) bay: u8,
-}
-
-impl Drop for Sealed {
-    fn drop(self)
-        requires { self.bay ≡ 0 }
+impl<K: AtStage> Handle<K> {
+    pub(crate) fn to(bay: u8) -> Handle<K>
+        ensures { result.bay ≡ bay }
     {
-        let Sealed { bay: _ } = self;
+        Handle {
+            bay,
+            at: PhantomData,
+        }
     }
-}
 
-// Leave to let a handle go, which the hall alone can give.
-#[derive(Drop)]
-pub struct Release {
-    pub(crate) bay: u8,
-}
-
-// A handle of either stage: the bay that it names, and the stage that it finds its bay at.
-pub trait Handle: Sized {
-    ghost named: { Self → ℕ };
-
-    ghost wanted: { Self → Stage };
-
-    fn bay(&self) -> u8
-        ensures { result ≡ named self.now };
-
-    fn stage(&self) -> Stage
-        ensures { result ≡ wanted self.now };
-
-    fn spend(self, release: Release);
-}
-
-impl Handle for Preparing {
-    ghost named = { λ h. h.bay };
-
-    ghost wanted = { λ h. Stage.Preparing };
-
-    fn bay(&self) -> u8 {
+    // The bay that it names.
+    pub fn bay(&self) -> u8
+        ensures { result ≡ self.now.bay }
+    {
         self.bay
     }
 
-    fn stage(&self) -> Stage {
-        Stage::Preparing
+    // The stage that it finds its bay at.
+    pub fn stage(&self) -> Stage
+        ensures { result ≡ K.STAGE }
+    {
+        K::STAGE
     }
 
-    fn spend(self, _release: Release) {
-        let mut handle = self;
-        handle.bay = 0;
-    }
-}
-
-impl Handle for Sealed {
-    ghost named = { λ h. h.bay };
-
-    ghost wanted = { λ h. Stage.Sealed };
-
-    fn bay(&self) -> u8 {
-        self.bay
-    }
-
-    fn stage(&self) -> Stage {
-        Stage::Sealed
-    }
-
-    fn spend(self, _release: Release) {
-        let mut handle = self;
-        handle.bay = 0;
+    pub(crate) fn spend(mut self) {
+        self.bay = 0;
     }
 }

@@ -8,5 +8,6 @@ mod shown;
 mod stages;
 
 pub use hall::Hall;
-pub use handle::{Handle, Preparing, Sealed};
+pub use handle::{AtStage, Handle, InPreparation, Preparing, Sealed, UnderSeal};
 pub use shown::Shown;
+pub use stages::Refused;

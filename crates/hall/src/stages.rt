@@ -1,58 +1,56 @@
 ghost use Rattle.bays.specs.declared.stage.Stage.{Stage};
 ghost use Rattle.history.specs.Calls.{answered, call, close, done, open_bay, seal, shared};
-ghost use Rattle.history.specs.Hall.{apply, hall_of};
-ghost use Rattle.std.specs.Prelude.{◌≡◌, Ok, Err};
+ghost use Rattle.history.specs.Hall.{apply};
+ghost use Rattle.std.specs.Prelude.{◌≡◌, length, IfErr, IfOk};
 ghost use Rattle.history.specs.Calls;
 
 use crate::hall::Hall;
-use crate::handle::{Handle, Preparing, Release, Sealed};
+use crate::handle::{AtStage, Handle, InPreparation, Preparing, Sealed};
 use access::{Bay, Grant};
-use bays::{BayRecord, Refusal, Stage, first_vacant, is_at, wipe};
+use bays::{BayRecord, Refusal, Stage, first_vacant, wipe};
 use store::Store;
+
+// A refused call that has the handle itself gives it back.
+#[derive(Drop)]
+pub struct Refused<K: AtStage> {
+    pub refusal: Refusal,
+    pub handle: Handle<K>,
+}
 
 // The calls that go by the stages and grants of all bays.
 impl<S: Store> Hall<S> {
     // A free bay begins its preparation.
     pub fn open(&mut self, number: u8) -> Result<Preparing, Refusal>
-        ensures answer { answered (λ _. done) (λ e. e) result ≡ (apply (call number Stage.Preparing (shared open_bay)) (hall_of self.old.book self.old.table (S.Store.bytes self.old.store))).answer }
-        ensures after { hall_of self.new.book self.new.table (S.Store.bytes self.new.store) ≡ (apply (call number Stage.Preparing (shared open_bay)) (hall_of self.old.book self.old.table (S.Store.bytes self.old.store))).hall }
-        ensures named { elim result [ Ok h ↦ h.bay ≡ number | Err e ↦ Unit {0} ] }
+        ensures answer { answered (λ _. done) (λ e. e) result ≡ (apply (call number Stage.Preparing (shared open_bay)) self.old).answer }
+        ensures after { self.new ≡ (apply (call number Stage.Preparing (shared open_bay)) self.old).hall }
+        ensures named { IfOk result (λ h. h.bay ≡ number) }
+        ensures eight { length self.new.bays ≡ 8 }
     {
-        if number < 1 || number > 8 {
-            return Err(Refusal::NoSuchBay);
+        let record = self.table.get(number).ok_or(Refusal::NoSuchBay)?;
+        if record.stage.is_some() {
+            return Err(Refusal::Taken);
         }
-        match self.table.bay(number).stage {
-            Some(_) => Err(Refusal::Taken),
-            None => {
-                self.table.put(
-                    number,
-                    BayRecord {
-                        stage: Some(Stage::Preparing),
-                        ..BayRecord::free()
-                    },
-                );
-                Ok(Preparing { bay: number })
-            }
-        }
+        self.table.put(
+            number,
+            BayRecord {
+                stage: Some(Stage::Preparing),
+                ..BayRecord::free()
+            },
+        );
+        Ok(Preparing::to(number))
     }
 
     // A range of the store, to read or to write.
     pub fn grant(&mut self, handle: &Preparing, grant: Grant) -> Result<(), Refusal>
-        ensures answer { answered (λ _. done) (λ e. e) result ≡ (apply (call handle.now.bay Stage.Preparing (shared (Calls.grant grant))) (hall_of self.old.book self.old.table (S.Store.bytes self.old.store))).answer }
-        ensures after { hall_of self.new.book self.new.table (S.Store.bytes self.new.store) ≡ (apply (call handle.now.bay Stage.Preparing (shared (Calls.grant grant))) (hall_of self.old.book self.old.table (S.Store.bytes self.old.store))).hall }
+        ensures answer { answered (λ _. done) (λ e. e) result ≡ (apply (call handle.now.bay Stage.Preparing (shared (Calls.grant grant))) self.old).answer }
+        ensures after { self.new ≡ (apply (call handle.now.bay Stage.Preparing (shared (Calls.grant grant))) self.old).hall }
     {
-        let record = self.table.bay(handle.bay);
-        if !is_at(Stage::Preparing, record.stage) {
-            return Err(Refusal::OtherStage);
-        }
+        let record = self.entered(handle)?;
         if grant.first > grant.last {
             return Err(Refusal::Reversed);
         }
         let mut grants = record.bay.grants;
-        let place = first_vacant(&grants);
-        if place >= grants.len() {
-            return Err(Refusal::Full);
-        }
+        let place = first_vacant(&grants).ok_or(Refusal::Full)?;
         if self.table.clashes(grant) {
             return Err(Refusal::Clash);
         }
@@ -68,41 +66,44 @@ impl<S: Store> Hall<S> {
     }
 
     // The end of preparation: the handle is spent for one that takes turns.
-    pub fn seal(&mut self, handle: Preparing) -> Result<Sealed, (Refusal, Preparing)>
-        ensures answer { answered (λ _. done) (λ e. e.0) result ≡ (apply (call handle.bay Stage.Preparing (shared seal)) (hall_of self.old.book self.old.table (S.Store.bytes self.old.store))).answer }
-        ensures after { hall_of self.new.book self.new.table (S.Store.bytes self.new.store) ≡ (apply (call handle.bay Stage.Preparing (shared seal)) (hall_of self.old.book self.old.table (S.Store.bytes self.old.store))).hall }
-        ensures named { elim result [ Ok h ↦ h.bay ≡ handle.bay | Err e ↦ e.1 ≡ handle ] }
+    pub fn seal(&mut self, handle: Preparing) -> Result<Sealed, Refused<InPreparation>>
+        ensures answer { answered (λ _. done) (λ e. e.refusal) result ≡ (apply (call handle.bay Stage.Preparing (shared seal)) self.old).answer }
+        ensures after { self.new ≡ (apply (call handle.bay Stage.Preparing (shared seal)) self.old).hall }
+        ensures named { IfOk result (λ h. h.bay ≡ handle.bay) }
+        ensures back { IfErr result (λ e. e.handle ≡ handle) }
     {
         let number = handle.bay;
-        let record = self.table.bay(number);
-        if !is_at(Stage::Preparing, record.stage) {
-            return Err((Refusal::OtherStage, handle));
+        match self.entered(&handle) {
+            Err(refusal) => Err(Refused { refusal, handle }),
+            Ok(record) => {
+                self.table.put(
+                    number,
+                    BayRecord {
+                        stage: Some(Stage::Sealed),
+                        ..record
+                    },
+                );
+                handle.spend();
+                Ok(Sealed::to(number))
+            }
         }
-        self.table.put(
-            number,
-            BayRecord {
-                stage: Some(Stage::Sealed),
-                ..record
-            },
-        );
-        handle.spend(Release { bay: number });
-        Ok(Sealed { bay: number })
     }
 
     // All bytes under the bay's write grants become zero, and the bay is free.
-    pub fn close<H: Handle>(&mut self, handle: H) -> Result<(), (Refusal, H)>
-        ensures answer { answered (λ _. done) (λ e. e.0) result ≡ (apply (call (H.Handle.named handle) (H.Handle.wanted handle) (shared close)) (hall_of self.old.book self.old.table (S.Store.bytes self.old.store))).answer }
-        ensures after { hall_of self.new.book self.new.table (S.Store.bytes self.new.store) ≡ (apply (call (H.Handle.named handle) (H.Handle.wanted handle) (shared close)) (hall_of self.old.book self.old.table (S.Store.bytes self.old.store))).hall }
-        ensures back { elim result [ Ok u ↦ Unit {0} | Err e ↦ e.1 ≡ handle ] }
+    pub fn close<K: AtStage>(&mut self, handle: Handle<K>) -> Result<(), Refused<K>>
+        ensures answer { answered (λ _. done) (λ e. e.refusal) result ≡ (apply (call handle.bay K.STAGE (shared close)) self.old).answer }
+        ensures after { self.new ≡ (apply (call handle.bay K.STAGE (shared close)) self.old).hall }
+        ensures back { IfErr result (λ e. e.handle ≡ handle) }
     {
-        let number = handle.bay();
-        let record = self.table.bay(number);
-        if !is_at(handle.stage(), record.stage) {
-            return Err((Refusal::OtherStage, handle));
+        let number = handle.bay;
+        match self.entered(&handle) {
+            Err(refusal) => Err(Refused { refusal, handle }),
+            Ok(record) => {
+                wipe(&mut self.store, &record.bay);
+                self.table.put(number, BayRecord::free());
+                handle.spend();
+                Ok(())
+            }
         }
-        wipe(&mut self.store, &record.bay);
-        self.table.put(number, BayRecord::free());
-        handle.spend(Release { bay: number });
-        Ok(())
     }
 }

@@ -1,5 +1,6 @@
 -- Tests, lists and grants.
-use Rattle.std.proofs.Common.{◌≡◌, ℕ, zero, suc, ◌+◌, ◌%◌, ◌<◌, ◌≤◌, Bool, true, false, cond, not, ◌&&◌, ◌||◌, T, leb, ◌≢◌, ◌⊎◌, List, [], ◌∷◌, length, get_or, set, Some, None, Option, sym, refl, ap, ◌∙◌, subst, inl, inr, add-zero, add-suc, mod-eq_of_lt, suc-add, zero-add, arith, le→leb, ltb→lt, leb→le, length-set}
+use Rattle.std.proofs.Common.{◌≡◌, ℕ, zero, suc, ◌+◌, ◌%◌, ◌<◌, ◌≤◌, Bool, true, false, cond, not, ◌&&◌, ◌||◌, T, leb, ◌⊎◌, List, [], ◌∷◌, length, get_or, set, Some, None, Option, sym, refl, ap, ◌∙◌, subst, inl, inr, add-zero, add-suc, mod-eq_of_lt, suc-add, zero-add, arith, le→leb, ltb→lt, leb→le, length-set}
+use Rattle.std.proofs.lemmas.List.{get_or-set_other}
 use Rattle.access.specs.declared.bay.Grant.{Grant}
 use Rattle.bays.specs.declared.record.BayRecord.{BayRecord}
 use Rattle.bays.specs.Bays.{bay_at, clash, free, wiped}
@@ -61,17 +62,6 @@ get_set d x (a ∷ l) zero zero = inl (refl, refl)
 get_set d x (a ∷ l) zero (suc j) = inr refl
 get_set d x (a ∷ l) (suc i) zero = inr refl
 get_set d x (a ∷ l) (suc i) (suc j) = elim (get_set d x l i j) [ inl p ↦ inl (ap suc p.0, p.1) | inr e ↦ inr e ]
-
-pub get_set_other {ℓ} : {A : Type ℓ} (d x : A) (l : List A) (i j : ℕ) → j ≢ i → get_or (set l i x) j d ≡ get_or l j d
-get_set_other d x l i j n = elim (get_set d x l i j) [ inl p ↦ absurd (n p.0) | inr e ↦ e ]
-
-pub true_of : (b : Bool) → T b → b ≡ true
-true_of true t = refl
-true_of false t = absurd t
-
-pub of_true : (b : Bool) → b ≡ true → T b
-of_true true e = tt
-of_true false e = let z : ◌≡◌ {A = ℕ} 0 1 = cc in absurd (omega arith)
 
 pub false_of : (b : Bool) → (T b → ⊥) → b ≡ false
 false_of true n = absurd (n tt)
@@ -148,11 +138,11 @@ module _ (bay : Bay) where
   pub written_frame : (vs bs : List ℕ) (x a : ℕ) → x + length vs ≤ 65536 → T (allows_all bay Write x (length vs)) → (T (allows bay Write a) → ⊥) → get_or (written bs x vs) a 0 ≡ get_or bs a 0
   written_frame [] bs x a h t n = refl
   written_frame (v ∷ []) bs x a h t n =
-      get_set_other 0 v bs x a (λ e. n (subst (λ (y : ℕ). T (allows bay Write y)) (sym e) (and_left (allows bay Write x) true t)))
+      get_or-set_other bs x a v 0 (λ e. n (subst (λ (y : ℕ). T (allows bay Write y)) (sym e) (and_left (allows bay Write x) true t)))
   written_frame (v ∷ v' ∷ vs) bs x a h t n =
       ap (λ (y : ℕ). get_or (written (set bs x v) y (v' ∷ vs)) a 0) (next_in x (length vs) h)
       ∙ written_frame (v' ∷ vs) (set bs x v) (x + 1) a (omega arith) (and_right (allows bay Write x) (allows_all bay Write (x + 1) (length (v' ∷ vs))) t) n
-      ∙ get_set_other 0 v bs x a (λ e. n (subst (λ (y : ℕ). T (allows bay Write y)) (sym e) (and_left (allows bay Write x) (allows_all bay Write (x + 1) (length (v' ∷ vs))) t)))
+      ∙ get_or-set_other bs x a v 0 (λ e. n (subst (λ (y : ℕ). T (allows bay Write y)) (sym e) (and_left (allows bay Write x) (allows_all bay Write (x + 1) (length (v' ∷ vs))) t)))
 
   -- bytes taken from an address on, where each is the same
   pub taken_same : (n x : ℕ) (bs cs : List ℕ) → x + n ≤ 65536 → T (allows_all bay Read x n) → ((a : ℕ) → T (allows bay Read a) → get_or bs a 0 ≡ get_or cs a 0) → taken bs x n ≡ taken cs x n

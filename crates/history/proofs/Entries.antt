@@ -1,5 +1,10 @@
 -- What the hall knows of its bays apart from their programs, and lists of bays with one bay put.
-use Rattle.std.proofs.Common.{◌≡◌, ℕ, zero, suc, Bool, false, cond, ◌&&◌, ◌||◌, leb, ◌≢◌, ◌⊎◌, List, [], ◌∷◌, length, get_or, set, Some, None, Option, sym, refl, ap, ◌∙◌, subst, inl, inr, arith}
+use Rattle.std.proofs.Common.{◌≡◌, ℕ, zero, suc, Bool, cond, ◌&&◌, ◌||◌, leb, ◌≢◌, ◌⊎◌, List, [], ◌∷◌, length, get_or, set, Some, None, Option, sym, refl, ap, ◌∙◌, subst, inl, inr, arith}
+use mathlib.Core.List.{map}
+use lib.ListN.{get_or-map}
+use lib.Seq.{map-set}
+use Rattle.std.proofs.lemmas.List.{length-map}
+use Rattle.std.specs.List.{list_any}
 use Rattle.access.specs.declared.bay.Bay.{Bay}
 use Rattle.access.specs.declared.bay.Grant.{Grant}
 use Rattle.bays.specs.declared.record.BayRecord.{BayRecord}
@@ -22,8 +27,7 @@ abbrev pub entry : BayRecord → Entry
 entry b = record { stage = b.stage; bay = b.bay }
 
 abbrev pub entries : List BayRecord → List Entry
-entries [] = []
-entries (b ∷ l) = entry b ∷ entries l
+entries l = map entry l
 
 abbrev entry_at : List Entry → ℕ → Entry
 entry_at l zero = entry free
@@ -34,36 +38,21 @@ put_entry l zero d = l
 put_entry l (suc k) d = set l k d
 
 abbrev clash_entries : Grant → List Entry → Bool
-clash_entries g [] = false
-clash_entries g (d ∷ l) = clashes_any g d.bay.grants || clash_entries g l
-
-get_entry : (l : List BayRecord) (k : ℕ) → entry (get_or l k free) ≡ get_or (entries l) k (entry free)
-get_entry [] k = refl
-get_entry (b ∷ l) zero = refl
-get_entry (b ∷ l) (suc k) = get_entry l k
+clash_entries g l = list_any (λ d. clashes_any g d.bay.grants) l
 
 entry_of : (l : List BayRecord) (k : ℕ) → entry (bay_at l k) ≡ entry_at (entries l) k
 unfolding bay_at
 entry_of l zero = refl
-entry_of l (suc k) = get_entry l k
-
-set_entry : (l : List BayRecord) (k : ℕ) (b : BayRecord) → entries (set l k b) ≡ set (entries l) k (entry b)
-set_entry [] k b = refl
-set_entry (x ∷ l) zero b = refl
-set_entry (x ∷ l) (suc k) b = ap (λ (m : List Entry). entry x ∷ m) (set_entry l k b)
+entry_of l (suc k) = sym (get_or-map entry l k free)
 
 put_entry_of : (l : List BayRecord) (k : ℕ) (b : BayRecord) → entries (put_bay l k b) ≡ put_entry (entries l) k (entry b)
 unfolding put_bay
 put_entry_of l zero b = refl
-put_entry_of l (suc k) b = set_entry l k b
+put_entry_of l (suc k) b = map-set entry l k b
 
 clash_entry : (g : Grant) (l : List BayRecord) → clash g l ≡ clash_entries g (entries l)
 clash_entry g [] = refl
 clash_entry g (b ∷ l) = ap (λ (x : Bool). clashes_any g b.bay.grants || x) (clash_entry g l)
-
-length_entries : (l : List BayRecord) → length (entries l) ≡ length l
-length_entries [] = refl
-length_entries (b ∷ l) = ap suc (length_entries l)
 
 module _ (l m : List BayRecord) (e : entries l ≡ entries m) where
   pub same_entry : (k : ℕ) → entry (bay_at l k) ≡ entry (bay_at m k)
@@ -73,7 +62,7 @@ module _ (l m : List BayRecord) (e : entries l ≡ entries m) where
   same_clash g = clash_entry g l ∙ ap (clash_entries g) e ∙ sym (clash_entry g m)
 
   pub same_length : length l ≡ length m
-  same_length = sym (length_entries l) ∙ ap length e ∙ length_entries m
+  same_length = sym (length-map l entry) ∙ ap length e ∙ length-map m entry
 
   pub same_put : (k : ℕ) (b c : BayRecord) → entry b ≡ entry c → entries (put_bay l k b) ≡ entries (put_bay m k c)
   same_put k b c f = put_entry_of l k b ∙ (λ i. put_entry (e i) k (f i)) ∙ sym (put_entry_of m k c)

@@ -14,10 +14,13 @@ grants_at l k = (bay_at l k).bay.grants
 abbrev pub stage_at : List BayRecord → ℕ → Option Stage
 stage_at l k = (bay_at l k).stage
 
+-- at some time of a history the grants of w pass the test
+abbrev pub ever : (List (Option Grant) → Bool) → ℕ → List Call → Hall → Bool
+ever f w [] H = f (grants_at H.bays w)
+ever f w (c ∷ h) H = f (grants_at H.bays w) || ever f w h (apply c H).hall
+
 abbrev pub ever_reads : ℕ → ℕ → List Call → Hall → Bool
-ever_reads w a [] H = reads (grants_at H.bays w) a
-ever_reads w a (c ∷ h) H = reads (grants_at H.bays w) a || ever_reads w a h (apply c H).hall
+ever_reads w a h H = ever (λ gs. reads gs a) w h H
 
 abbrev pub ever_writes : ℕ → ℕ → List Call → Hall → Bool
-ever_writes w a [] H = writes (grants_at H.bays w) a
-ever_writes w a (c ∷ h) H = writes (grants_at H.bays w) a || ever_writes w a h (apply c H).hall
+ever_writes w a h H = ever (λ gs. writes gs a) w h H

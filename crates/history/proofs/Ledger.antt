@@ -1,5 +1,5 @@
 -- What every call keeps of the ledger, and what open, grant, seal and close do to bytes and grants.
-use Rattle.std.proofs.Common.{◌≡◌, ℕ, Bool, true, false, cond, ◌&&◌, T, leb, ◌≢◌, ◌⊎◌, List, length, get_or, Some, None, Option, sym, refl, ap, ◌∙◌, subst, inl, inr, arith}
+use Rattle.std.proofs.Common.{◌≡◌, ℕ, Bool, true, false, cond, ◌&&◌, T, leb, ◌≢◌, ◌⊎◌, List, length, get_or, Some, None, Option, sym, refl, ap, ◌∙◌, subst, inl, inr}
 use mathlib.Core.Path.{subst⁻¹}
 use Rattle.access.specs.declared.bay.Grant.{Grant}
 use Rattle.bays.specs.declared.record.BayRecord.{BayRecord}
@@ -46,15 +46,12 @@ sound_set l k d s f g h = record {
 }
 
 -- the tests that an accepted call has passed
-SomeNone : (n : Refusal) → Some n ≡ None → ⊥
-SomeNone n e = let z : ◌≡◌ {A = ℕ} 0 1 = cc in omega arith
-
 pub passed : (b : Bool) (x : Option Refusal) (n : Refusal) → cond b x (Some n) ≡ None → T b × (x ≡ None)
 passed true x n e = (tt, e)
-passed false x n e = absurd (SomeNone n e)
+passed false x n e = cc
 
 failed : (b : Bool) (n : Refusal) → cond b (Some n) None ≡ None → T b → ⊥
-failed true n e t = SomeNone n e
+failed true n e t = cc
 failed false n e t = t
 
 open_free : (k : ℕ) (s : Stage) (l : List BayRecord) → verdict k s open_bay l ≡ None → T (is_free (stage_at l k))

@@ -1,17 +1,18 @@
 -- Load, set, turn, look and copy depend on the bytes only where a grant of the bay allows to read, and alter only where one allows to write.
 use Rattle.std.proofs.Common.{◌≡◌, ℕ, zero, suc, ◌+◌, ◌/◌, ◌%◌, Bool, true, false, cond, ◌&&◌, T, List, length, get_or, set, Some, None, Ok, Err, Option, Result, sym, refl, ap, ◌∙◌, subst, length-set}
+use Rattle.std.proofs.lemmas.Float.{T_from_true}
 use Rattle.code.specs.declared.reading.Reading.{Reading}
 use Rattle.book.specs.Readings.{reading}
 use Rattle.book.specs.declared.book.Book.{Book}
 use Rattle.store.specs.Bulk.{taken, written}
 use Rattle.access.specs.Access.{allows, sight, within}
 use Rattle.turns.specs.Laws.{among, target}
-use Rattle.turns.specs.Step.{bytes_after, half_into, into, planned, stepped}
+use Rattle.turns.specs.Step.{bytes_after, committed, half_into, into, planned, stepped}
 use Rattle.turns.specs.Turn.{Run, run}
 use Rattle.access.specs.declared.bay.Bay.{Bay}
 use Rattle.machine.specs.declared.effect.Effect.{Effect}
 use Rattle.machine.specs.declared.effect.Pending.{Pending}
-use Rattle.machine.specs.declared.effect.Pending.TheVariants.{Nothing, Byte, Half, Full}
+use Rattle.machine.specs.declared.effect.Pending.TheVariants.{Byte, Half, Full}
 use Rattle.machine.specs.declared.registers.Registers.{Registers}
 use Rattle.access.specs.declared.stop.Access.TheVariants.{Read, Write}
 use Rattle.access.specs.declared.stop.Stop.{Stop}
@@ -19,7 +20,7 @@ use Rattle.turns.proofs.Frame.{step_writes}
 use Rattle.turns.proofs.Local as step
 use Rattle.history.specs.Calls.{Own, copied, copy, done, load, look, refused, set_all, turn}
 use Rattle.history.specs.Hall.{Outcome, Program, outcome, turn_end, turn_from}
-use Rattle.history.proofs.Basics.{by_test, false_of, get_set_cong, length_written, of_true, taken_same, within_all, within_in, written_cong, written_frame}
+use Rattle.history.proofs.Basics.{by_test, false_of, get_set_cong, length_written, taken_same, within_all, within_in, written_cong, written_frame}
 
 -- the two stores agree wherever the bay may read
 pub record Agree (bay : Bay) (bs cs : List ℕ) : Type 0 where
@@ -42,22 +43,28 @@ half_agree : (bay : Bay) (bs cs : List ℕ) (x v : ℕ) → Agree bay bs cs → 
 half_agree bay bs cs x v e = set_agree bay _ _ ((x + 1) % 65536) (v % 256) (set_agree bay bs cs x (v / 256) e)
 
 into_agree : (bay : Bay) (bs cs : List ℕ) (p : Pending) → Agree bay bs cs → Agree bay (into bs p) (into cs p)
-into_agree bay bs cs Nothing e = e
 into_agree bay bs cs (Byte x v) e = set_agree bay bs cs x v e
 into_agree bay bs cs (Half x v) e = half_agree bay bs cs x v e
 into_agree bay bs cs (Full x v) e = half_agree bay _ _ ((x + 2) % 65536) (v % 65536) (half_agree bay bs cs x (v / 65536) e)
+
+committed_agree : (bay : Bay) (bs cs : List ℕ) (o : Option Pending) → Agree bay bs cs → Agree bay (committed bs o) (committed cs o)
+committed_agree bay bs cs None e = e
+committed_agree bay bs cs (Some p) e = into_agree bay bs cs p e
 
 half_length : (bs : List ℕ) (x v : ℕ) → length (half_into bs x v) ≡ length bs
 half_length bs x v = length-set (set bs x (v / 256)) ((x + 1) % 65536) (v % 256) ∙ length-set bs x (v / 256)
 
 into_length : (bs : List ℕ) (p : Pending) → length (into bs p) ≡ length bs
-into_length bs Nothing = refl
 into_length bs (Byte x v) = length-set bs x v
 into_length bs (Half x v) = half_length bs x v
 into_length bs (Full x v) = half_length (half_into bs x (v / 65536)) ((x + 2) % 65536) (v % 65536) ∙ half_length bs x (v / 65536)
 
+committed_length : (bs : List ℕ) (o : Option Pending) → length (committed bs o) ≡ length bs
+committed_length bs None = refl
+committed_length bs (Some p) = into_length bs p
+
 -- a step leaves alone what its bay may not write
-frame : (reads : ℕ → Reading) (bay : Bay) (bs : List ℕ) (r : Registers) (e : Effect) → stepped reads r (sight bay bs) ≡ Ok e → (a : ℕ) → allows bay Write a ≡ false → get_or (into bs e.pending) a 0 ≡ get_or bs a 0
+frame : (reads : ℕ → Reading) (bay : Bay) (bs : List ℕ) (r : Registers) (e : Effect) → stepped reads r (sight bay bs) ≡ Ok e → (a : ℕ) → allows bay Write a ≡ false → get_or (committed bs e.pending) a 0 ≡ get_or bs a 0
 frame reads bay bs r e h a n =
     subst (λ (o : Result Effect Stop). get_or (bytes_after bs o) a 0 ≡ get_or bs a 0) h
     (step_writes reads bay bs r a (ap (λ (x : Bool). x && among a (target (sight bay bs) (planned reads r))) n))
@@ -70,9 +77,9 @@ pub record Same (bay : Bay) (s t : Run) : Type 0 where
 
 module _ (reads : ℕ → Reading) (bay : Bay) where
   abbrev goes : ℕ → ℕ → Registers → List ℕ → Result Effect Stop → Run
-  goes n k r bs o = elim o [ Ok e ↦ run reads bay n (k + 1) e.registers (into bs e.pending) | Err t ↦ record { registers = r; bytes = bs; turned = record { steps = k; stop = Some t } } ]
+  goes n k r bs o = elim o [ Ok e ↦ run reads bay n (k + 1) e.registers (committed bs e.pending) | Err t ↦ record { registers = r; bytes = bs; turned = record { steps = k; stop = Some t } } ]
 
-  same_on : (n k : ℕ) (r : Registers) (bs cs : List ℕ) → Agree bay bs cs → ((x : Effect) → Same bay (run reads bay n (k + 1) x.registers (into bs x.pending)) (run reads bay n (k + 1) x.registers (into cs x.pending)))
+  same_on : (n k : ℕ) (r : Registers) (bs cs : List ℕ) → Agree bay bs cs → ((x : Effect) → Same bay (run reads bay n (k + 1) x.registers (committed bs x.pending)) (run reads bay n (k + 1) x.registers (committed cs x.pending)))
       → (o : Result Effect Stop) → Same bay (goes n k r bs o) (goes n k r cs o)
   same_on n k r bs cs e f (Ok x) = f x
   same_on n k r bs cs e f (Err t) = record { registers = refl; turned = refl; agree = e }
@@ -80,19 +87,19 @@ module _ (reads : ℕ → Reading) (bay : Bay) where
   run_same : (n k : ℕ) (r : Registers) (bs cs : List ℕ) → Agree bay bs cs → Same bay (run reads bay n k r bs) (run reads bay n k r cs)
   run_same zero k r bs cs e = record { registers = refl; turned = refl; agree = e }
   run_same (suc n) k r bs cs e =
-      subst (λ (o : Result Effect Stop). Same bay (goes n k r bs (stepped reads r (sight bay bs))) (goes n k r cs o)) (step.local reads bay bs cs r (λ a t. e.at a (of_true _ t)))
-      (same_on n k r bs cs e (λ x. run_same n (k + 1) x.registers (into bs x.pending) (into cs x.pending) (into_agree bay bs cs x.pending e)) (stepped reads r (sight bay bs)))
+      subst (λ (o : Result Effect Stop). Same bay (goes n k r bs (stepped reads r (sight bay bs))) (goes n k r cs o)) (step.local reads bay bs cs r (λ a t. e.at a (T_from_true _ t)))
+      (same_on n k r bs cs e (λ x. run_same n (k + 1) x.registers (committed bs x.pending) (committed cs x.pending) (committed_agree bay bs cs x.pending e)) (stepped reads r (sight bay bs)))
 
-  length_on : (n k : ℕ) (r : Registers) (bs : List ℕ) → ((x : Effect) → length (run reads bay n (k + 1) x.registers (into bs x.pending)).bytes ≡ length bs)
+  length_on : (n k : ℕ) (r : Registers) (bs : List ℕ) → ((x : Effect) → length (run reads bay n (k + 1) x.registers (committed bs x.pending)).bytes ≡ length bs)
       → (o : Result Effect Stop) → length (goes n k r bs o).bytes ≡ length bs
   length_on n k r bs f (Ok x) = f x
   length_on n k r bs f (Err t) = refl
 
   run_length : (n k : ℕ) (r : Registers) (bs : List ℕ) → length (run reads bay n k r bs).bytes ≡ length bs
   run_length zero k r bs = refl
-  run_length (suc n) k r bs = length_on n k r bs (λ x. run_length n (k + 1) x.registers (into bs x.pending) ∙ into_length bs x.pending) (stepped reads r (sight bay bs))
+  run_length (suc n) k r bs = length_on n k r bs (λ x. run_length n (k + 1) x.registers (committed bs x.pending) ∙ committed_length bs x.pending) (stepped reads r (sight bay bs))
 
-  frame_on : (n k : ℕ) (r : Registers) (bs : List ℕ) (a : ℕ) (p : Result Effect Stop) → ((x : Effect) → p ≡ Ok x → get_or (run reads bay n (k + 1) x.registers (into bs x.pending)).bytes a 0 ≡ get_or bs a 0)
+  frame_on : (n k : ℕ) (r : Registers) (bs : List ℕ) (a : ℕ) (p : Result Effect Stop) → ((x : Effect) → p ≡ Ok x → get_or (run reads bay n (k + 1) x.registers (committed bs x.pending)).bytes a 0 ≡ get_or bs a 0)
       → (o : Result Effect Stop) → p ≡ o → get_or (goes n k r bs o).bytes a 0 ≡ get_or bs a 0
   frame_on n k r bs a p f (Ok x) e = f x e
   frame_on n k r bs a p f (Err t) e = refl
@@ -101,7 +108,7 @@ module _ (reads : ℕ → Reading) (bay : Bay) where
   run_frame zero k r bs a f = refl
   run_frame (suc n) k r bs a f =
       frame_on n k r bs a (stepped reads r (sight bay bs))
-      (λ x e. run_frame n (k + 1) x.registers (into bs x.pending) a f ∙ frame reads bay bs r x e a (false_of _ f)) (stepped reads r (sight bay bs)) refl
+      (λ x e. run_frame n (k + 1) x.registers (committed bs x.pending) a f ∙ frame reads bay bs r x e a (false_of _ f)) (stepped reads r (sight bay bs)) refl
 
 -- the length of the store, and the bytes that stay
 module _ (b : Book) (bay : Bay) (p : Program) (bs : List ℕ) where

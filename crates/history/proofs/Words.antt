@@ -11,10 +11,11 @@ use Rattle.bays.specs.declared.refusal.Refusal.TheVariants.{OtherStage, Reversed
 use Rattle.history.proofs.Basics.{by_test, or_left, or_right, or_cases, and_left, and_right, and_both, added_cases, added_new, covers_has, covers_write, has_covers}
 use Rattle.history.proofs.Entries.{Entry, same_entry, changed_entries, get_put}
 use Rattle.history.proofs.Ledger.{passed}
-use Rattle.history.proofs.Ever.{grants_at, stage_at, ever_reads, ever_writes}
+use Rattle.history.proofs.Ever.{grants_at, stage_at, ever, ever_reads, ever_writes}
 use Rattle.access.specs.declared.stop.Access.TheVariants.{Read, Write}
 use Rattle.bays.specs.Bays.{bay_at, free, put_bay}
-use Rattle.bays.specs.Grants.{added, reads, room, writes}
+use Rattle.bays.specs.Grants.{added, has, reads, room, writes}
+use Rattle.access.specs.Access.{permits}
 use Rattle.bays.specs.Stages.{at_stage}
 use Rattle.history.specs.Calls.{Act, Call, Shared, close, grant, open_bay, own, seal, shared}
 use Rattle.history.specs.Hall.{Hall, Told, apply, apply_act, bay_after, outcome, program_of, settle, stage_for, verdict}
@@ -71,31 +72,32 @@ module _ (f : List (Option Grant) → Bool) (p : Act → Bool) (none-at : T (f (
   grow : (w : ℕ) (c : Call) (H : Hall) → T (f (grants_at (apply c H).hall.bays w)) → T (f (grants_at H.bays w)) ⊎ T (p c.act && accepted w c H)
   grow w c H t = grow_act w c.bay c.held c.act H t
 
-reads_grow : (w a : ℕ) (c : Call) (H : Hall) → T (reads (grants_at (apply c H).hall.bays w) a) → T (reads (grants_at H.bays w) a) ⊎ T (grants_byte a c.act && accepted w c H)
-reads_grow w a = grow (λ gs. reads gs a) (grants_byte a) (λ t. t) (λ g gs t. elim (added_cases g Read a gs t) [ inl u ↦ inl (covers_has g Read a u) | inr u ↦ inr u ]) w
+  -- so what ever was under a grant was so at the start, or is granted by a call
+  ever_grow : (w : ℕ) (g : List Call → Hall → Bool) → ((c : Call) (h : List Call) (H : Hall) → T ((p c.act && accepted w c H) || g h (apply c H).hall) → T (g (c ∷ h) H))
+      → (h : List Call) (H : Hall) → T (ever f w h H) → T (f (grants_at H.bays w)) ⊎ T (g h H)
+  ever_grow w g more [] H t = inl t
+  ever_grow w g more (c ∷ h) H t = elim (or_cases _ _ t) [
+    | inl u ↦ inl u
+    | inr u ↦ elim (ever_grow w g more h (apply c H).hall u) [
+      | inl v ↦ elim (grow w c H v) [ inl x ↦ inl x | inr x ↦ inr (more c h H (or_left _ _ x)) ]
+      | inr v ↦ inr (more c h H (or_right _ _ v))
+    ]
+  ]
+
+reads_first : (a : ℕ) (g : Grant) (gs : List (Option Grant)) → T (reads (added g gs) a) → T (has g a) ⊎ T (reads gs a)
+reads_first a g gs t = elim (added_cases g Read a gs t) [ inl u ↦ inl (covers_has g Read a u) | inr u ↦ inr u ]
+
+writes_first : (a : ℕ) (g : Grant) (gs : List (Option Grant)) → T (writes (added g gs) a) → T (permits g.kind Write && has g a) ⊎ T (writes gs a)
+writes_first a g gs t = elim (added_cases g Write a gs t) [ inl u ↦ inl (covers_write g a u) | inr u ↦ inr u ]
 
 writes_grow : (w a : ℕ) (c : Call) (H : Hall) → T (writes (grants_at (apply c H).hall.bays w) a) → T (writes (grants_at H.bays w) a) ⊎ T (grants_write a c.act && accepted w c H)
-writes_grow w a = grow (λ gs. writes gs a) (grants_write a) (λ t. t) (λ g gs t. elim (added_cases g Write a gs t) [ inl u ↦ inl (covers_write g a u) | inr u ↦ inr u ]) w
+writes_grow w a = grow (λ gs. writes gs a) (grants_write a) (λ t. t) (writes_first a) w
 
 pub ever_granted : (w a : ℕ) (h : List Call) (H : Hall) → T (ever_reads w a h H) → T (reads (grants_at H.bays w) a) ⊎ T (granted-to w a h H)
-ever_granted w a [] H t = inl t
-ever_granted w a (c ∷ h) H t = elim (or_cases _ _ t) [
-  | inl u ↦ inl u
-  | inr u ↦ elim (ever_granted w a h (apply c H).hall u) [
-    | inl v ↦ elim (reads_grow w a c H v) [ inl x ↦ inl x | inr x ↦ inr (or_left _ _ x) ]
-    | inr v ↦ inr (or_right _ _ v)
-  ]
-]
+ever_granted w a = ever_grow (λ gs. reads gs a) (grants_byte a) (λ t. t) (reads_first a) w (granted-to w a) (λ c h H t. t)
 
 pub ever_granted_write : (w a : ℕ) (h : List Call) (H : Hall) → T (ever_writes w a h H) → T (writes (grants_at H.bays w) a) ⊎ T (granted_write w a h H)
-ever_granted_write w a [] H t = inl t
-ever_granted_write w a (c ∷ h) H t = elim (or_cases _ _ t) [
-  | inl u ↦ inl u
-  | inr u ↦ elim (ever_granted_write w a h (apply c H).hall u) [
-    | inl v ↦ elim (writes_grow w a c H v) [ inl x ↦ inl x | inr x ↦ inr (or_left _ _ x) ]
-    | inr v ↦ inr (or_right _ _ v)
-  ]
-]
+ever_granted_write w a = ever_grow (λ gs. writes gs a) (grants_write a) (λ t. t) (writes_first a) w (granted_write w a) (λ c h H t. t)
 
 -- an accepted grant stands in the ledger after it
 gives_settle : (w a k : ℕ) (s : Stage) (o : Shared) (H : Hall) (v : Option Refusal) → verdict k s o H.bays ≡ v

@@ -19,7 +19,6 @@ use Rattle.bays.specs.declared.refusal.Refusal.{Refusal}
 use Rattle.bays.specs.declared.refusal.Refusal.TheVariants.{NoSuchBay, OtherStage, Taken, Reversed, Full, Clash}
 use Rattle.bays.specs.declared.stage.Stage.{Stage}
 use Rattle.bays.specs.declared.stage.Stage.TheVariants.{Preparing, Sealed}
-use Rattle.bays.specs.declared.table.Table.{Table}
 use Rattle.history.specs.Calls.{Act, Answer, Call, Own, Shared, close, copied, copy, done, grant, load, look, open_bay, own, refused, seal, set_all, shared, shown, stop_told, turn, turned}
 
 pub record Hall : Type 0 where
@@ -30,10 +29,6 @@ pub record Hall : Type 0 where
 -- a new hall has eight free bays
 abbrev pub new : Book → List ℕ → Hall
 new b bs = record { book = b; bays = replicate 8 free; bytes = bs }
-
--- the hall of the code
-abbrev pub hall_of : Book → Table → List ℕ → Hall
-hall_of b t bs = record { book = b; bays = t.bays; bytes = bs }
 
 -- the program in a bay
 pub record Program : Type 0 where

@@ -1,1 +1,1 @@
-mod Turns
+mod Rest

@@ -12,4 +12,4 @@ reached q bs = record { registers = q.registers; bytes = bs; turned = record { s
 
 -- the record at the job's input, and then one run of as many steps as all the turns have
 abbrev pub recorded : (ℕ → Reading) → Job → List ℕ → List ℕ → Run
-recorded reads j bs counts = run reads j.bay (j.turns * j.budget) 0 j.registers (written bs j.input.address counts)
+recorded reads j bs counts = run reads j.bay (j.turns.count * j.turns.budget) 0 j.registers (written bs j.input.address counts)

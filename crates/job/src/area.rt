@@ -1,5 +1,7 @@
+ghost use Rattle.std.specs.Prelude.{◌≡◌, ◌*◌};
+
 // So many halfwords of the store, from an address on.
-#[derive(Clone, Copy)]
+#[derive(Clone, Copy, PartialEq, Eq, Debug)]
 pub struct Area {
     pub address: u16,
     pub halfwords: u16,
@@ -8,14 +10,13 @@ pub struct Area {
 impl Area {
     // None where it does not lie in the store whole.
     pub fn new(address: u16, halfwords: u16) -> Option<Area> {
-        if address as u32 + 2 * halfwords as u32 <= 65536 {
-            Some(Area { address, halfwords })
-        } else {
-            None
-        }
+        let end = u32::from(address) + 2 * u32::from(halfwords);
+        (end <= 65536).then_some(Area { address, halfwords })
     }
 
-    pub fn bytes(&self) -> usize {
-        2 * self.halfwords as usize
+    pub fn bytes(&self) -> usize
+        ensures { result ≡ 2 * self.now.halfwords }
+    {
+        2 * usize::from(self.halfwords)
     }
 }

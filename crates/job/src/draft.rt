@@ -1,86 +1,90 @@
 use crate::area::Area;
+use crate::entry::Entry;
 use crate::fault::Fault;
-use crate::job::Job;
-use access::{Access, Bay, Grant, Kind, reaches};
+use crate::fields::{area, bay, file, full, grant, half, turns};
+use crate::job::{Job, Turns};
+use access::{Access, Bay, Grant};
+use bays::{clash_with_any, first_vacant};
 use machine::Registers;
 
 // A job as far as it has been read.
-#[derive(Drop)]
+#[derive(Default, Drop)]
 pub struct Draft<'a> {
-    pub number: Option<u8>,
-    pub bay: Bay,
-    pub registers: Option<Registers>,
-    pub input: Option<Area>,
-    pub output: Option<Area>,
-    pub turns: Option<(u16, u16)>,
-    pub records: Option<&'a str>,
-    pub results: Option<&'a str>,
-}
-
-fn clash(a: Grant, b: Grant) -> bool {
-    match (a.kind, b.kind) {
-        (Kind::Read, Kind::Read) => false,
-        _ => a.first <= b.last && b.first <= a.last,
-    }
+    number: Option<u8>,
+    grants: [Option<Grant>; 6],
+    registers: Option<Registers>,
+    input: Option<Area>,
+    output: Option<Area>,
+    turns: Option<Turns>,
+    records: Option<&'a str>,
+    results: Option<&'a str>,
 }
 
 // The value, where none was there before.
-pub fn once<T: Drop>(slot: &mut Option<T>, value: T) -> Result<(), Fault> {
-    if slot.is_some() {
-        return Err(Fault::Repeated);
-    }
-    *slot = Some(value);
-    Ok(())
-}
-
-fn needed<T: Copy>(slot: Option<T>, entry: &'static str) -> Result<T, Fault> {
-    match slot {
-        Some(value) => Ok(value),
-        None => Err(Fault::Missing(entry)),
+fn once<T: Drop>(slot: &mut Option<T>, value: T) -> Result<(), Fault> {
+    match slot.replace(value) {
+        None => Ok(()),
+        Some(_) => Err(Fault::Repeated),
     }
 }
 
 impl<'a> Draft<'a> {
-    pub fn new() -> Draft<'a> {
-        let bay = Bay { grants: [None; 6] };
-        Draft {
-            number: None,
-            bay,
-            registers: None,
-            input: None,
-            output: None,
-            turns: None,
-            records: None,
-            results: None,
-        }
-    }
-
     // One grant more, or a refusal.
-    pub fn grant(&mut self, grant: Grant) -> Result<(), Fault> {
+    fn add_grant(&mut self, grant: Grant) -> Result<(), Fault> {
         if grant.last < grant.first {
             return Err(Fault::Reversed);
         }
-        for place in 0..6usize {
-            match self.bay.grants[place] {
-                Some(other) => {
-                    if clash(grant, other) {
-                        return Err(Fault::Clash);
-                    }
-                }
-                None => {
-                    self.bay.grants[place] = Some(grant);
-                    return Ok(());
-                }
-            }
+        if clash_with_any(grant, &self.grants) {
+            return Err(Fault::Clash);
         }
-        Err(Fault::SeventhGrant)
+        let place = first_vacant(&self.grants).ok_or(Fault::SeventhGrant)?;
+        self.grants[place] = Some(grant);
+        Ok(())
+    }
+
+    fn enter(&mut self, line: &'a [u8]) -> Result<(), Fault> {
+        let mut fields = line.split(|b| *b == b'\t');
+        match Entry::try_from(fields.next().ok_or(Fault::Fields)?)? {
+            Entry::Bay => once(&mut self.number, bay(fields.next())?)?,
+            Entry::Grant => { self.add_grant(grant(fields.next(), fields.next(), fields.next())?)? }
+            Entry::Registers => once(
+                &mut self.registers,
+                Registers {
+                    a: full(fields.next())?,
+                    b: full(fields.next())?,
+                    x: half(fields.next())?,
+                    y: half(fields.next())?,
+                    z: half(fields.next())?,
+                    s: half(fields.next())?,
+                    l: half(fields.next())?,
+                    ..Registers::default()
+                },
+            )?,
+            Entry::Input => once(&mut self.input, area(fields.next(), fields.next())?)?,
+            Entry::Output => once(&mut self.output, area(fields.next(), fields.next())?)?,
+            Entry::Turns => once(&mut self.turns, turns(fields.next(), fields.next())?)?,
+            Entry::Records => once(&mut self.records, file(fields.next())?)?,
+            Entry::Results => once(&mut self.results, file(fields.next())?)?,
+        }
+        match fields.next() {
+            None => Ok(()),
+            Some(_) => Err(Fault::Fields),
+        }
+    }
+
+    // What one line says; empty lines and comments say nothing.
+    pub fn take_line(&mut self, line: &'a [u8]) -> Result<(), Fault> {
+        match line {
+            [] | [b'#', ..] => Ok(()),
+            _ => self.enter(line),
+        }
     }
 
     // The whole job: each entry is there, records can be put in, and results can be taken.
     pub fn finish(self) -> Result<Job<'a>, Fault> {
         let Draft {
             number,
-            bay,
+            grants,
             registers,
             input,
             output,
@@ -88,29 +92,28 @@ impl<'a> Draft<'a> {
             records,
             results,
         } = self;
-        let number = needed(number, "bay")?;
-        let registers = needed(registers, "registers")?;
-        let input = needed(input, "input")?;
-        let output = needed(output, "output")?;
-        let (turns, budget) = needed(turns, "turns")?;
-        let records = needed(records, "records")?;
-        let results = needed(results, "results")?;
-        if !reaches(&bay, Access::Write, input.address, input.bytes()) {
-            return Err(Fault::Denied("input"));
-        }
-        if !reaches(&bay, Access::Read, output.address, output.bytes()) {
-            return Err(Fault::Denied("output"));
-        }
-        Ok(Job {
-            number,
+        let job = Job {
+            number: number.ok_or(Fault::Missing(Entry::Bay))?,
+            bay: Bay { grants },
+            registers: registers.ok_or(Fault::Missing(Entry::Registers))?,
+            input: input.ok_or(Fault::Missing(Entry::Input))?,
+            output: output.ok_or(Fault::Missing(Entry::Output))?,
+            turns: turns.ok_or(Fault::Missing(Entry::Turns))?,
+            records: records.ok_or(Fault::Missing(Entry::Records))?,
+            results: results.ok_or(Fault::Missing(Entry::Results))?,
+        };
+        let Job {
             bay,
-            registers,
             input,
             output,
-            turns,
-            budget,
-            records,
-            results,
-        })
+            ..
+        } = &job;
+        if !bay.reaches(Access::Write, input.address, input.bytes()) {
+            return Err(Fault::Denied(Entry::Input));
+        }
+        if !bay.reaches(Access::Read, output.address, output.bytes()) {
+            return Err(Fault::Denied(Entry::Output));
+        }
+        Ok(job)
     }
 }

@@ -1,54 +1,50 @@
-use std::fmt;
+use crate::entry::Entry;
+use text::Unended;
+use thiserror::Error;
 
 // What is wrong with a line of a job, or with the whole of it.
-#[derive(Clone, Copy, Debug)]
+#[derive(Clone, Copy, PartialEq, Eq, Debug, Error)]
 pub enum Fault {
+    #[error("the line lacks its line feed")]
     Unended,
+    #[error("no such entry (bay, grant, registers, input, output, turns, records, results)")]
     Unknown,
+    #[error("another number of fields than this entry has")]
     Fields,
+    #[error("not a number, or out of range")]
     Number,
+    #[error("a file name that is empty or not UTF-8")]
     Text,
+    #[error("this entry stands twice")]
     Repeated,
+    #[error("grant refused with 4: last is below first")]
     Reversed,
+    #[error("grant refused with 5: a bay has six at most")]
     SeventhGrant,
+    #[error("grant refused with 6: it shares a byte with another, and one of them is a write grant")]
     Clash,
+    #[error("the halfwords do not lie in the store whole")]
     Outside,
-    Missing(&'static str),
-    Denied(&'static str),
+    #[error("the job has no entry {0}")]
+    Missing(Entry),
+    #[error("refused with 7: not all bytes lie in the grants that it needs: {0}")]
+    Denied(Entry),
 }
 
-// A refused job, with the number of the line; past the last line where something is missing.
-#[derive(Clone, Copy, Debug)]
+// A refused job, with the number of the line; past the last line where something is missing. It has a type of its own, as a listing's and
+// a book's refusal have.
+#[derive(Clone, Copy, PartialEq, Eq, Debug, Error)]
+#[error("line {line}: {fault}")]
 pub struct Refused {
     pub fault: Fault,
     pub line: usize,
 }
 
-impl fmt::Display for Fault {
-    fn fmt<W: fmt::Write>(&self, f: &mut fmt::Formatter<W>) -> fmt::Result {
-        match *self {
-            Fault::Unended => f.write_str("the line lacks its line feed"),
-            Fault::Unknown => f.write_str(
-                "no such entry (bay, grant, registers, input, output, turns, records, results)",
-            ),
-            Fault::Fields => f.write_str("another number of fields than this entry has"),
-            Fault::Number => f.write_str("not a number, or out of range"),
-            Fault::Text => f.write_str("a file name that is empty or not UTF-8"),
-            Fault::Repeated => f.write_str("this entry stands twice"),
-            Fault::Reversed => f.write_str("grant refused with 4: last is below first"),
-            Fault::SeventhGrant => f.write_str("grant refused with 5: a bay has six at most"),
-            Fault::Clash => f.write_str(
-                "grant refused with 6: it shares a byte with another, and one of them is a write grant",
-            ),
-            Fault::Outside => f.write_str("the halfwords do not lie in the store whole"),
-            Fault::Missing(entry) => {
-                f.write_str("the job has no entry ")?;
-                f.write_str(entry)
-            }
-            Fault::Denied(entry) => {
-                f.write_str("refused with 7: not all bytes lie in the grants that it needs: ")?;
-                f.write_str(entry)
-            }
+impl From<Unended> for Refused {
+    fn from(unended: Unended) -> Refused {
+        Refused {
+            fault: Fault::Unended,
+            line: unended.line,
         }
     }
 }

@@ -2,8 +2,15 @@ use crate::area::Area;
 use access::Bay;
 use machine::Registers;
 
-// What one job says. For each record: it goes to `input`, the program starts from `registers`,
-// takes at most so many turns of that budget, and `output` is taken after it.
+// At most so many turns, each of that budget.
+#[derive(Clone, Copy, PartialEq, Eq, Debug)]
+pub struct Turns {
+    pub count: u16,
+    pub budget: u16,
+}
+
+// What one job says. For each record: it goes to `input`, the program starts from `registers`
+// and takes its turns, and `output` is taken after them.
 #[derive(Drop)]
 pub struct Job<'a> {
     pub number: u8,
@@ -11,8 +18,7 @@ pub struct Job<'a> {
     pub registers: Registers,
     pub input: Area,
     pub output: Area,
-    pub turns: u16,
-    pub budget: u16,
+    pub turns: Turns,
     pub records: &'a str,
     pub results: &'a str,
 }

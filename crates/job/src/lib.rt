@@ -3,13 +3,16 @@
 
 mod area;
 mod draft;
+mod entry;
 mod fault;
+mod fields;
 mod job;
-mod parse;
+mod read;
 mod run;
 
 pub use area::Area;
+pub use entry::Entry;
 pub use fault::{Fault, Refused};
-pub use job::Job;
-pub use parse::read_job;
+pub use job::{Job, Turns};
+pub use read::read_job;
 pub use run::{Ran, run_record};

@@ -4,49 +4,39 @@ ghost use Rattle.job.specs.Ran.{reached, recorded};
 ghost use Rattle.turns.specs.Turn.{run};
 
 use crate::job::Job;
-use access::{Bay, Stop};
+use access::Stop;
 use book::Book;
 use machine::Registers;
 use store::{Store, write_all};
 use turns::turn;
 
 // How the run of a record ended: its steps, the registers, and the stop, or none where its turns were spent.
-#[derive(Clone, Copy)]
+#[derive(Clone, Copy, Debug, PartialEq, Eq)]
 pub struct Ran {
     pub steps: u32,
     pub registers: Registers,
     pub stop: Option<Stop>,
 }
 
-// So many turns of that budget, or up to a stop.
-fn run_turns<S: Store>(
-    book: &Book,
-    start: Registers,
-    store: &mut S,
-    bay: &Bay,
-    turns: u16,
-    budget: u16,
-) -> Ran
-    ensures { reached result (S.Store.bytes store.new) ≡ run (reading book.now.tables) bay.now (turns * budget) 0 start (S.Store.bytes store.old) }
+// The job's turns from its registers, or those up to a stop.
+fn run_turns<S: Store>(book: &Book, job: &Job, store: &mut S) -> Ran
+    ensures { reached result (S.Store.bytes store.new) ≡ run (reading book.now.tables) job.now.bay (job.now.turns.count * job.now.turns.budget) 0 job.now.registers (S.Store.bytes store.old) }
 {
-    let mut registers = start;
-    let mut steps: u32 = 0;
-    for _k in 0..turns {
-        let turned = turn(book, &mut registers, store, bay, budget);
-        steps += turned.steps as u32;
-        if let Some(stop) = turned.stop {
-            return Ran {
-                steps,
-                registers,
-                stop: Some(stop),
-            };
+    let mut ran = Ran {
+        steps: 0,
+        registers: job.registers,
+        stop: None,
+    };
+    // Turns are counted, and nothing is indexed.
+    for _k in 0..job.turns.count {
+        let turned = turn(book, &mut ran.registers, store, &job.bay, job.turns.budget);
+        ran.steps += turned.steps as u32;
+        if turned.stop.is_some() {
+            ran.stop = turned.stop;
+            return ran;
         }
     }
-    Ran {
-        steps,
-        registers,
-        stop: None,
-    }
+    ran
 }
 
 // The record goes to the job's input, and the program runs from the job's registers.
@@ -54,5 +44,5 @@ pub fn run_record<S: Store>(book: &Book, job: &Job, store: &mut S, counts: &[u8]
     ensures { reached result (S.Store.bytes store.new) ≡ recorded (reading book.now.tables) job.now (S.Store.bytes store.old) counts.now }
 {
     write_all(store, job.input.address, counts);
-    run_turns(book, job.registers, store, &job.bay, job.turns, job.budget)
+    run_turns(book, job, store)
 }

@@ -50,9 +50,6 @@ gather_line t (x ∷ xs) n e =
 pub stops : (t : Tables) (s : Bytes) (n e : ℕ) → unended ≡ line_of s → gather t [] n e s ≡ Err (fault_at n Unended)
 stops t s n e h = gather_line t s n e ∙ ap (by_line t n e (rest_of s)) (sym h)
 
-pub ends : (t : Tables) (s : Bytes) (n e : ℕ) → the_end ≡ line_of s → gather t [] n e s ≡ Ok []
-ends t s n e h = gather_line t s n e ∙ ap (by_line t n e (rest_of s)) (sym h)
-
 -- line n is l and says o, and s' is left after it, from line n' on
 pub goes : (t : Tables) (s s' l : Bytes) (n n' e : ℕ) (o : Line) → a_line l ≡ line_of s → s' ≡ rest_of s → n' ≡ line_after s n → o ≡ line_rule t (words (uncommented l)) → gather t [] n e s ≡ line_go n e o (λ e'. gather t [] n' e' s')
 goes t s s' l n n' e o h r m q =

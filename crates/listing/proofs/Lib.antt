@@ -1,5 +1,5 @@
 pub mod Words
 pub mod Gather
 pub mod Turns
-pub mod Keeping
 pub mod Laying
+pub mod Halves

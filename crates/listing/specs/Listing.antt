@@ -19,6 +19,15 @@ Read = Result (List Placed) Refused
 abbrev pub fault_at : ℕ → Fault → Refused
 fault_at n f = record { fault = f; line = n }
 
+-- a fault is one of line n
+abbrev pub at_line : {X : Type 0} → ℕ → Result X Fault → Result X Refused
+at_line n (Err f) = Err (fault_at n f)
+at_line n (Ok x) = Ok x
+
+abbrev pub one : Result Placed Fault → Result (Option Placed) Fault
+one (Err f) = Err f
+one (Ok p) = Ok (Some p)
+
 abbrev pub more : Placed → Read → Read
 more p (Err e) = Err e
 more p (Ok ps) = Ok (p ∷ ps)

@@ -1,8 +1,8 @@
 -- Numbers and addresses, as a listing has them.
-use Rattle.std.specs.Prelude.{ℕ, ◌+◌, ◌-◌, ◌*◌, ◌%◌, cond, ◌&&◌, [], ◌∷◌, length, ℤ, pos, neg_ℤ, Some, None, Option, ◌==◌, nat_le, slice_index}
+use Rattle.std.specs.Prelude.{ℕ, ◌+◌, ◌-◌, ◌*◌, ◌%◌, cond, [], ◌∷◌, length, ℤ, pos, neg_ℤ, Some, None, Option, ◌==◌, slice_index}
 use Rattle.std.specs.Borrow.{Bor}
 use Rattle.text.specs.Search.{Bytes}
-use Rattle.text.specs.Numbers.{number_of}
+use Rattle.text.specs.Numbers.{number_of, hex_digit}
 
 abbrev pub then_for : {X Y : Type 0} → Option X → (X → Option Y) → Option Y
 then_for None f = None
@@ -18,13 +18,17 @@ abbrev pub after_minus : Bytes → Option Bytes
 after_minus [] = None
 after_minus (x ∷ xs) = cond (x == 45) (Some xs) None
 
-abbrev pub by_sign : Option Bytes → Bytes → Option ℤ
-by_sign None s = then_for (number_of 0 65535 s) (λ n. Some (pos n))
-by_sign (Some t) s = then_for (number_of 0 65535 t) (λ n. Some (neg_ℤ (pos n)))
+abbrev pub by_sign : ℕ → Option Bytes → Bytes → Option ℤ
+by_sign least None s = then_for (number_of 0 65535 s) (λ n. Some (pos n))
+by_sign least (Some t) s = then_for (number_of 0 least t) (λ n. Some (neg_ℤ (pos n)))
+
+-- a number from -least to 65,535
+abbrev pub integer : ℕ → Bytes → Option ℤ
+integer least s = by_sign least (after_minus s) s
 
 -- a number from -65,535 to 65,535
 abbrev pub signed_of : Bytes → Option ℤ
-signed_of s = by_sign (after_minus s) s
+signed_of s = integer 65535 s
 
 abbrev pub half_by_sign : Option Bytes → Bytes → Option ℕ
 half_by_sign None s = number_of 0 65535 s
@@ -33,9 +37,6 @@ half_by_sign (Some t) s = then_for (number_of 0 32768 t) (λ n. Some ((65536 - n
 -- a number from -32,768 to 65,535, as a halfword in two's complement
 abbrev pub half_of : Bytes → Option ℕ
 half_of s = half_by_sign (after_minus s) s
-
-abbrev pub hex_digit : ℕ → Option ℕ
-hex_digit d = cond (nat_le 48 d && nat_le d 57) (Some (d - 48)) (cond (nat_le 65 d && nat_le d 70) (Some (d - 55)) (cond (nat_le 97 d && nat_le d 102) (Some (d - 87)) None))
 
 abbrev pub four_digits : Option ℕ → Option ℕ → Option ℕ → Option ℕ → Option ℕ
 four_digits a b c d = then_for a (λ a. then_for b (λ b. then_for c (λ c. then_for d (λ d. Some (a * 4096 + b * 256 + c * 16 + d)))))

@@ -1,5 +1,5 @@
 -- The words of a line.
-use Rattle.std.specs.Prelude.{ℕ, suc, cond, List, [], ◌∷◌, ◌++◌, take, Some, None, Option, ◌==◌}
+use Rattle.std.specs.Prelude.{cond, List, [], ◌∷◌, ◌++◌, take, Some, None, Option, ◌==◌}
 use Rattle.std.specs.Borrow.{Bor}
 use Rattle.text.specs.Search.{Bytes, place, empty}
 
@@ -15,11 +15,6 @@ gathered front (x ∷ xs) = cond (x == 32) (cond (empty front) (gathered [] xs) 
 -- the words that spaces part
 abbrev pub words : Bytes → List Bytes
 words s = gathered [] s
-
--- the spaces that lead
-abbrev pub spaces : Bytes → ℕ
-spaces [] = 0
-spaces (x ∷ xs) = cond (x == 32) (suc (spaces xs)) 0
 
 -- a first word with what follows it, as the words of both
 abbrev pub parted : Option (Bor Bytes × Bor Bytes) → List Bytes

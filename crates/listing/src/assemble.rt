@@ -7,32 +7,21 @@ use crate::fault::Refused;
 use crate::listing::Listing;
 use crate::placed::Placed;
 use book::Book;
-use store::Store;
+use store::{Store, write_all};
 
 // Reads the whole text, and says whether it is a listing under the book.
 fn check_text(book: &Book, text: &[u8]) -> Result<(), Refused>
     ensures { result ≡ told (listing book.now.tables text.now) }
 {
     let mut reader = Listing::new(text);
-    'halfwords: loop {
-        match reader.next_placed(book) {
-            Ok(next) => match next {
-                Some(_) => {}
-                None => return Ok(()),
-            },
-            Err(refused) => return Err(refused),
-        }
-    }
+    'halfwords: while reader.next_placed(book)?.is_some() {}
+    Ok(())
 }
 
 fn write_halfword<S: Store>(store: &mut S, placed: Placed)
     ensures { S.Store.bytes store.new ≡ wrote (S.Store.bytes store.old) placed }
 {
-    store.write(placed.address, (placed.halfword / 256) as u8);
-    store.write(
-        placed.address.wrapping_add(1),
-        (placed.halfword % 256) as u8,
-    );
+    write_all(store, placed.address, &placed.halfword.to_be_bytes());
 }
 
 // Writes what a text that was checked places.
@@ -41,27 +30,8 @@ fn write_text<S: Store>(book: &Book, text: &[u8], store: &mut S)
     ensures { S.Store.bytes store.new ≡ kept (S.Store.bytes store.old) (listing book.now.tables text.now) }
 {
     let mut reader = Listing::new(text);
-    'halfwords: loop {
-        match reader.next_placed(book) {
-            Ok(next) => match next {
-                Some(placed) => write_halfword(store, placed),
-                None => return,
-            },
-            Err(_) => return,
-        }
-    }
-}
-
-fn check_and_write<S: Store>(book: &Book, text: &[u8], store: &mut S) -> Result<(), Refused>
-    ensures answer { result ≡ told (listing book.now.tables text.now) }
-    ensures after { S.Store.bytes store.new ≡ kept (S.Store.bytes store.old) (listing book.now.tables text.now) }
-{
-    match check_text(book, text) {
-        Ok(()) => {
-            write_text(book, text, store);
-            Ok(())
-        }
-        Err(refused) => Err(refused),
+    'halfwords: while let Ok(Some(placed)) = reader.next_placed(book) {
+        write_halfword(store, placed);
     }
 }
 
@@ -71,6 +41,7 @@ pub fn assemble_into<S: Store>(book: &Book, text: &[u8], store: &mut S) -> Resul
     ensures after { S.Store.bytes store.new ≡ kept (S.Store.bytes store.old) (listing book.now.tables text.now) }
     ensures laid { Laid (listing book.now.tables text.now) (S.Store.bytes store.old) (S.Store.bytes store.new) }
 {
-    store.sized();
-    check_and_write(book, text, store)
+    check_text(book, text)?;
+    write_text(book, text, store);
+    Ok(())
 }

@@ -1,50 +1,71 @@
+ghost use Rattle.std.specs.Prelude.{◌≡◌};
+ghost use Rattle.listing.specs.declared.fault.Fault.TheVariants.{Unended as NoLineFeed, Name, Format, Put};
+
 use book::Unput;
-use std::fmt;
+use code::{UnknownFormat, UnknownName};
+use text::Unended;
+use thiserror::Error;
 
 // What is wrong with a line of a listing.
-#[derive(Clone, Copy)]
+#[derive(Clone, Copy, PartialEq, Eq, Debug, Error)]
 pub enum Fault {
+    #[error("the line lacks its line feed")]
     Unended,
+    #[error("the address is no even number from 0 to 65535")]
     Address,
+    #[error("the address lies below the end of the line before")]
     Below,
+    #[error("a halfword lies past 65535")]
     Past,
+    #[error("not the words of such a line (NAME FORMAT M D, word HHHH, halfwords N ..)")]
     Words,
+    #[error("no such name")]
     Name,
+    #[error("no such format (A1, A2, A3, A4, A5, L, B)")]
     Format,
+    #[error("not a number, or out of range")]
     Number,
+    #[error("{0}")]
     Put(Unput),
 }
 
-// The first fault of a listing, with the number of its line.
-#[derive(Clone, Copy)]
+// The first fault of a listing, with the number of its line. A book's, a listing's and a job's refusal have a type each, not one over
+// the fault: a book's prints its number and not its fault, and clauses name the three apart.
+#[derive(Clone, Copy, PartialEq, Eq, Debug, Error)]
+#[error("line {line}: {fault}")]
 pub struct Refused {
     pub fault: Fault,
     pub line: usize,
 }
 
-fn unput_text(unput: Unput) -> &'static str {
-    match unput {
-        Unput::Unavailable => "refused with 21: the code book has no such instruction",
-        Unput::Unfit => "refused with 22: M or D does not fit",
+impl From<Unended> for Fault {
+    ghost from_gives = { λ _ fault. fault ≡ NoLineFeed };
+
+    fn from(_line: Unended) -> Fault {
+        Fault::Unended
     }
 }
 
-fn fault_text(fault: Fault) -> &'static str {
-    match fault {
-        Fault::Unended => "the line lacks its line feed",
-        Fault::Address => "the address is no even number from 0 to 65535",
-        Fault::Below => "the address lies below the end of the line before",
-        Fault::Past => "a halfword lies past 65535",
-        Fault::Words => "not the words of such a line (NAME FORMAT M D, word HHHH, halfwords N ..)",
-        Fault::Name => "no such name",
-        Fault::Format => "no such format (A1, A2, A3, A4, A5, L, B)",
-        Fault::Number => "not a number, or out of range",
-        Fault::Put(unput) => unput_text(unput),
+impl From<UnknownName> for Fault {
+    ghost from_gives = { λ _ fault. fault ≡ Name };
+
+    fn from(_name: UnknownName) -> Fault {
+        Fault::Name
     }
 }
 
-impl fmt::Display for Fault {
-    fn fmt<W: fmt::Write>(&self, f: &mut fmt::Formatter<W>) -> fmt::Result {
-        f.write_str(fault_text(*self))
+impl From<UnknownFormat> for Fault {
+    ghost from_gives = { λ _ fault. fault ≡ Format };
+
+    fn from(_format: UnknownFormat) -> Fault {
+        Fault::Format
+    }
+}
+
+impl From<Unput> for Fault {
+    ghost from_gives = { λ unput fault. fault ≡ Put unput };
+
+    fn from(unput: Unput) -> Fault {
+        Fault::Put(unput)
     }
 }

@@ -1,39 +1,30 @@
-ghost use Rattle.std.specs.Prelude.{◌≡◌, ◌≤◌, length};
+ghost use Rattle.std.specs.Prelude.{◌≡◌, ◌==◌, not, position, IfSome, ◌<◌, length};
 ghost use Rattle.listing.specs.Numbers.{held};
-ghost use Rattle.listing.specs.Words.{spaces, words, parted, uncommented, only, three, triple};
+ghost use Rattle.listing.specs.Words.{words, parted, uncommented, only, three, triple};
 
-use text::find;
+use text::cut;
 
-// How many spaces the text begins with.
-fn leading_spaces(s: &[u8]) -> usize
-    ensures is { result ≡ spaces s.now }
-    ensures within { result ≤ length s.now }
+// Where the first word begins.
+fn word_start(s: &[u8]) -> Option<usize>
+    ensures is { result ≡ position (λ x. not (x == 32)) s.now }
+    ensures within { IfSome result (λ p. p < length s.now) }
 {
-    for (i, x) in s.iter().enumerate() {
-        if *x != b' ' {
-            return i;
-        }
-    }
-    s.len()
+    s.iter().position(|x| *x != b' ')
 }
 
 // The first word, and what follows it.
 pub fn next_word(s: &[u8]) -> Option<(&[u8], &[u8])>
     ensures { parted result ≡ words s.now }
 {
-    let t = &s[leading_spaces(s)..];
-    let end = find(t, b' ');
-    if end == 0 {
-        return None;
-    }
-    Some((&t[0..end], &t[end..]))
+    let t = &s[word_start(s)?..];
+    Some(cut(t, b' ').unwrap_or((t, &[])))
 }
 
 // What stands before the comment.
 pub fn before_comment(line: &[u8]) -> &[u8]
     ensures { result.now ≡ uncommented line.now }
 {
-    &line[0..find(line, b'#')]
+    cut(line, b'#').map_or(line, |(said, _)| said)
 }
 
 // The only word.
@@ -41,10 +32,7 @@ pub fn one_word(s: &[u8]) -> Option<&[u8]>
     ensures { held result ≡ only (words s.now) }
 {
     let (word, rest) = next_word(s)?;
-    if next_word(rest).is_some() {
-        return None;
-    }
-    Some(word)
+    next_word(rest).is_none().then_some(word)
 }
 
 // The words, if there are just three.

@@ -1,12 +1,12 @@
 -- An instruction: a plan that ends in new registers, with at most one item stored, or in a stop.
-use Rattle.std.specs.Prelude.{ℕ, Ok, Err, Result}
+use Rattle.std.specs.Prelude.{ℕ, Some, None, Ok, Err, Result}
 use Rattle.access.specs.Access.{Item, aligned, bind, byte, full, half, item_may, Sight}
 use Rattle.access.specs.declared.stop.Cause.{Cause}
 use Rattle.access.specs.declared.stop.Place.TheVariants.{Operand}
 use Rattle.machine.specs.Plan.{Plan, obey, placed}
 use Rattle.machine.specs.declared.effect.Effect.{Effect}
 use Rattle.machine.specs.declared.effect.Pending.{Pending}
-use Rattle.machine.specs.declared.effect.Pending.TheVariants.{Nothing, Byte, Half, Full}
+use Rattle.machine.specs.declared.effect.Pending.TheVariants.{Byte, Half, Full}
 use Rattle.machine.specs.declared.registers.Registers.{Registers}
 
 infixl 10 ◌>>=◌
@@ -17,7 +17,7 @@ pub data Act : Type 1 where
   ◌>>=◌ : {T : Type 0} → Plan T → (T → Act) → Act
 
 abbrev pub still : Registers → Effect
-still r = record { registers = r; pending = Nothing }
+still r = record { registers = r; pending = None }
 
 abbrev pub pending : Item → ℕ → ℕ → Pending
 pending byte at v = Byte at v
@@ -26,6 +26,6 @@ pending full at v = Full (aligned full at) v
 
 abbrev pub perform : Sight → Act → Result Effect Cause
 perform v (done r) = Ok (still r)
-perform v (store i at w r) = bind (placed Operand (item_may i v.may at)) (λ _. Ok (record { registers = r; pending = pending i at w }))
+perform v (store i at w r) = bind (placed Operand (item_may i v.may at)) (λ _. Ok (record { registers = r; pending = Some (pending i at w) }))
 perform v (fail c) = Err c
 perform v (t >>= f) = bind (obey v t) (λ x. perform v (f x))

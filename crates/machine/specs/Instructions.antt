@@ -5,7 +5,7 @@ use Rattle.code.specs.declared.name.Name.{Name}
 use Rattle.code.specs.declared.name.Name.TheVariants.{Ldb, Ld, Ldw, Ldx, Stb, St, Stw, Stx, Ad, Adw, Sb, Sbw, Adx, Sbx, Cp, Cpw, Cpx, Nw, Nx, Mx, Dx, Ldy, Sty, Ady, Sby, Ldz, Stz, Adz, Sbz, Bi, Bli, Ldl, Adl, Sbl, Cpl, Nl, Ml, Bitx, Bz, Bnz, Bn, Bnn, Bca, Bof, B, Bl, Mbs, Cpbs, Trbs, Scbs, Mhs, Rk, Hrk, Sfn, Sim, Sfm, Bitl}
 use Rattle.word.specs.Arithmetic.{sum, difference, product, quotient}
 use Rattle.word.specs.Bytes.{extended}
-use Rattle.access.specs.Access.{byte, full, half, sight}
+use Rattle.access.specs.Access.{Item, byte, full, half, sight, size}
 use Rattle.access.specs.declared.bay.Bay.{Bay}
 use Rattle.access.specs.declared.stop.Cause.{Cause}
 use Rattle.access.specs.declared.stop.Cause.TheVariants.{Halt}
@@ -35,11 +35,11 @@ stored_full r = with_nz r (nat_le 0x80000000 r.a) (r.a == 0)
 abbrev pub stored_x : Registers → Registers
 stored_x r = with_nz r (nat_le 0x8000 r.x) (r.x == 0)
 
--- a halfword stored where the operand lies, and the registers after it
-abbrev pub half_stored : Mode → Registers → ℕ → Registers → Act
-half_stored t r v after = do
-  at ← formed t 2 r
-  store half at v after
+-- an item stored where the operand lies, and the registers after it
+abbrev pub item_stored : Item → Mode → Registers → ℕ → Registers → Act
+item_stored i t r v after = do
+  at ← formed t (size i) r
+  store i at v after
 
 -- a conditional branch
 abbrev pub branched : Bool → ℕ → Registers → Registers
@@ -63,14 +63,10 @@ executed Ldl t r = done (loaded_a r t.d)
 executed Ldx t r = do
   v ← operand half t r
   done (loaded_x r v)
-executed Stb t r = do
-  at ← formed t 1 r
-  store byte at (r.a % 256) (stored_byte r)
-executed St t r = half_stored t r (r.a % 65536) (stored_half r)
-executed Stw t r = do
-  at ← formed t 4 r
-  store full at r.a (stored_full r)
-executed Stx t r = half_stored t r r.x (stored_x r)
+executed Stb t r = item_stored byte t r (r.a % 256) (stored_byte r)
+executed St t r = item_stored half t r (r.a % 65536) (stored_half r)
+executed Stw t r = item_stored full t r r.a (stored_full r)
+executed Stx t r = item_stored half t r r.x (stored_x r)
 executed Ad t r = do
   v ← operand half t r
   done (computed_a r (sum w32 r.a (extended v)))
@@ -118,7 +114,7 @@ executed Dx t r = do
 executed Ldy t r = do
   v ← operand half t r
   done (with_y r v)
-executed Sty t r = half_stored t r r.y r
+executed Sty t r = item_stored half t r r.y r
 executed Ady t r = do
   v ← operand half t r
   done (with_y r (plus r.y v))
@@ -128,7 +124,7 @@ executed Sby t r = do
 executed Ldz t r = do
   v ← operand half t r
   done (with_z r v)
-executed Stz t r = half_stored t r r.z r
+executed Stz t r = item_stored half t r r.z r
 executed Adz t r = do
   v ← operand half t r
   done (with_z r (plus r.z v))

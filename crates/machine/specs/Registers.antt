@@ -1,5 +1,7 @@
 -- Registers and markers, and what the common kinds of result do to them.
-use Rattle.std.specs.Prelude.{ℕ, ◌+◌, ◌-◌, ◌*◌, ◌%◌, Bool, true, ◌||◌, Some, None, Option, ◌==◌, nat_le}
+use Rattle.std.specs.Prelude.{ℕ, ◌+◌, ◌-◌, ◌*◌, ◌%◌, ◌^◌, Bool, true, ◌||◌, Some, None, Option, ◌==◌, nat_le}
+use Rattle.std.specs.Int.{Width}
+use mir.Val.{hbits}
 use Rattle.word.specs.declared.arithmetic.Outcome.{Outcome}
 use Rattle.machine.specs.declared.registers.Registers.{Registers}
 
@@ -44,6 +46,10 @@ with_ca r c = record { a = r.a; b = r.b; x = r.x; y = r.y; z = r.z; s = r.s; l =
 -- OF is made 1, or stays
 abbrev pub raised : Registers → Bool → Registers
 raised r o = with_of r (r.of || o)
+
+-- the markers of a value of a register's width: N its top bit, ZR whether it is zero
+abbrev pub signed : Width → Registers → ℕ → Registers
+signed w r v = with_nz r (nat_le (2 ^ hbits w) v) (v == 0)
 
 -- a register loaded: N its sign, ZR whether it is zero
 abbrev pub loaded_a : Registers → ℕ → Registers

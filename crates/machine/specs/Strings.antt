@@ -37,11 +37,15 @@ byte_at start x = plus start x
 abbrev pub half_at : ℕ → ℕ → ℕ
 half_at start x = plus start (times x 2)
 
--- an item is moved from one address to another, by the new x
+-- an item is moved from one address to another, and the registers after it
+abbrev pub transferred : Item → ℕ → ℕ → Registers → Act
+transferred i from to after = do
+  v ← read Operand i from
+  store i to v after
+
+-- the same by the new x
 abbrev pub moved : Item → (ℕ → ℕ) → (ℕ → ℕ) → Registers → ℕ → Act
-moved i from to r x = do
-  v ← read Operand i (from x)
-  store i (to x) v (passed r x)
+moved i from to r x = transferred i (from x) (to x) (passed r x)
 
 abbrev pub moved_byte : Registers → ℕ → Act
 moved_byte r x = moved byte (byte_at r.z) (byte_at r.y) r x
@@ -52,8 +56,7 @@ moved_half r x = moved half (half_at r.z) (half_at r.y) r x
 abbrev pub translated : Registers → ℕ → Act
 translated r x = do
   b ← read Operand byte (plus r.y x)
-  v ← read Operand byte (plus r.z b)
-  store byte (plus r.y x) v (passed r x)
+  transferred byte (plus r.z b) (plus r.y x) (passed r x)
 
 -- byte z+x less byte y+x, unsigned
 abbrev pub compared : Registers → ℕ → Act

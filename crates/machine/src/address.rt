@@ -1,11 +1,11 @@
-ghost use Rattle.access.specs.Access.{byte, full, half, sight};
-ghost use Rattle.machine.specs.Address.{base, far_base, formed, indirect, operand};
+ghost use Rattle.access.specs.Access.{held, sight_of};
+ghost use Rattle.machine.specs.Address.{base, far_base, formed, indirect};
 ghost use Rattle.machine.specs.Plan.{obey, placed};
 ghost use Rattle.std.specs.Prelude.{◌≡◌};
 
 use crate::mode::Mode;
 use crate::registers::Registers;
-use access::{Bay, Cause, Denial, Place, read_byte, read_full, read_half};
+use access::{Cause, Denial, Item, Place, View};
 use code::Format;
 use store::Store;
 
@@ -13,10 +13,7 @@ use store::Store;
 pub fn at_place<T>(place: Place, res: Result<T, Denial>) -> Result<T, Cause>
     ensures { result ≡ placed place res }
 {
-    match res {
-        Ok(value) => Ok(value),
-        Err(denial) => Err(Cause::Denied(place, denial)),
-    }
+    res.map_err(|denial| Cause::Denied(place, denial))
 }
 
 fn base_of(r: Registers, m: u8) -> u16
@@ -36,16 +33,10 @@ fn far_base_of(r: Registers, m: u8) -> u16
     if m == 1 { 0 } else { base_of(r, m) }
 }
 
-fn form_indirect<S: Store>(
-    at: u16,
-    length: u16,
-    r: Registers,
-    store: &S,
-    bay: &Bay,
-) -> Result<u16, Cause>
-    ensures { result ≡ obey (sight bay.now (S.Store.bytes store.now)) (indirect at length r) }
+fn form_indirect<S: Store>(at: u16, length: u16, r: Registers, view: &View<S>) -> Result<u16, Cause>
+    ensures { result ≡ obey (sight_of view.now) (indirect at length r) }
 {
-    let pointer = at_place(Place::Pointer, read_half(store, bay, at))?;
+    let pointer = at_place(Place::Pointer, u16::read(view, at))?;
     Ok(pointer.wrapping_add(r.x.wrapping_mul(length)))
 }
 
@@ -54,22 +45,20 @@ pub(crate) fn form<S: Store>(
     mode: Mode,
     length: u16,
     r: Registers,
-    store: &S,
-    bay: &Bay,
+    view: &View<S>,
 ) -> Result<u16, Cause>
-    ensures { result ≡ obey (sight bay.now (S.Store.bytes store.now)) (formed mode length r) }
+    ensures { result ≡ obey (sight_of view.now) (formed mode length r) }
 {
     let scaled = mode.d.wrapping_mul(length);
     match mode.format {
         Format::A1 => Ok(scaled),
         Format::A2 => Ok(base_of(r, mode.m).wrapping_add(scaled)),
-        Format::A3 => form_indirect(mode.d.wrapping_mul(2), length, r, store, bay),
+        Format::A3 => form_indirect(mode.d.wrapping_mul(2), length, r, view),
         Format::A4 => form_indirect(
             base_of(r, mode.m).wrapping_add(mode.d.wrapping_mul(2)),
             length,
             r,
-            store,
-            bay,
+            view,
         ),
         Format::A5 => Ok(
             far_base_of(r, mode.m)
@@ -80,38 +69,15 @@ pub(crate) fn form<S: Store>(
     }
 }
 
-pub(crate) fn operand_byte<S: Store>(
+// The item that an instruction works on. Mode, registers and view stay three parameters: as one value their clause would be
+// `operand T.item self.now.mode self.now.registers` over `sight_of self.now.view.now`.
+pub(crate) fn operand<T: Item, S: Store>(
     mode: Mode,
     r: Registers,
-    store: &S,
-    bay: &Bay,
-) -> Result<u8, Cause>
-    ensures { result ≡ obey (sight bay.now (S.Store.bytes store.now)) (operand byte mode r) }
+    view: &View<S>,
+) -> Result<T, Cause>
+    ensures { held T.bits result ≡ obey (sight_of view.now) (Rattle.machine.specs.Address.operand T.item mode r) }
 {
-    let at = form(mode, 1, r, store, bay)?;
-    at_place(Place::Operand, read_byte(store, bay, at))
-}
-
-pub(crate) fn operand_half<S: Store>(
-    mode: Mode,
-    r: Registers,
-    store: &S,
-    bay: &Bay,
-) -> Result<u16, Cause>
-    ensures { result ≡ obey (sight bay.now (S.Store.bytes store.now)) (operand half mode r) }
-{
-    let at = form(mode, 2, r, store, bay)?;
-    at_place(Place::Operand, read_half(store, bay, at))
-}
-
-pub(crate) fn operand_full<S: Store>(
-    mode: Mode,
-    r: Registers,
-    store: &S,
-    bay: &Bay,
-) -> Result<u32, Cause>
-    ensures { result ≡ obey (sight bay.now (S.Store.bytes store.now)) (operand full mode r) }
-{
-    let at = form(mode, 4, r, store, bay)?;
-    at_place(Place::Operand, read_full(store, bay, at))
+    let at = form(mode, T::SIZE, r, view)?;
+    at_place(Place::Operand, T::read(view, at))
 }

@@ -30,6 +30,8 @@ fn operation_of(high: u8) -> Option<Operation>
     }
 }
 
+// Here and below a bit is asked to be one of sixteen and has no type of its own: the one caller takes it from a half byte, where the bound
+// computes.
 fn mask_of(bit: u8) -> u16
     requires { bit < 16 }
     ensures { result ≡ mask bit }
@@ -79,8 +81,6 @@ fn operate(operation: Operation, bit: u8, r: Registers) -> Registers
 pub(crate) fn control(byte: u8, r: Registers) -> Result<Effect, Cause>
     ensures { (v : Sight) → result ≡ perform v (controlled byte r) }
 {
-    match operation_of(byte / 16) {
-        Some(operation) => Ok(quiet(operate(operation, byte % 16, r))),
-        None => Err(Cause::Undefined),
-    }
+    let operation = operation_of(byte / 16).ok_or(Cause::Undefined)?;
+    Ok(quiet(operate(operation, byte % 16, r)))
 }

@@ -1,22 +1,46 @@
-ghost use Rattle.machine.specs.Act.{still};
+ghost use Rattle.machine.specs.Act.{pending, still};
 ghost use Rattle.std.specs.Prelude.{◌≡◌};
 
 use crate::registers::Registers;
+use access::Item;
 
-// What a step has yet to write: at most one item, at its aligned address.
-#[derive(Clone, Copy)]
+// What a step has yet to write: one item, at its aligned address.
+#[derive(Clone, Copy, Debug, PartialEq, Eq)]
 pub enum Pending {
-    Nothing,
     Byte(u16, u8),
     Half(u16, u16),
     Full(u16, u32),
 }
 
+// An item that a step stores.
+pub(crate) trait Stored: Item {
+    fn pending(self, at: u16) -> Pending
+        ensures { result ≡ pending Self.item at (Self.bits self) };
+}
+
+impl Stored for u8 {
+    fn pending(self, at: u16) -> Pending {
+        Pending::Byte(at, self)
+    }
+}
+
+impl Stored for u16 {
+    fn pending(self, at: u16) -> Pending {
+        Pending::Half(at - at % 2, self)
+    }
+}
+
+impl Stored for u32 {
+    fn pending(self, at: u16) -> Pending {
+        Pending::Full(at - at % 4, self)
+    }
+}
+
 // What a step does that can be done: the new registers, and what is written.
-#[derive(Clone, Copy)]
+#[derive(Clone, Copy, Debug, PartialEq, Eq)]
 pub struct Effect {
     pub registers: Registers,
-    pub pending: Pending,
+    pub pending: Option<Pending>,
 }
 
 // New registers, and nothing written.
@@ -25,6 +49,6 @@ pub(crate) fn quiet(registers: Registers) -> Effect
 {
     Effect {
         registers,
-        pending: Pending::Nothing,
+        pending: None,
     }
 }

@@ -2,77 +2,77 @@ ghost use Rattle.code.specs.declared.name.Name.TheVariants.{Ldy, Ady, Sby, Ldz, 
 ghost use Rattle.machine.specs.Instructions.{does};
 ghost use Rattle.std.specs.Prelude.{◌≡◌};
 
-use crate::address::operand_half;
+use crate::address::operand;
 use crate::effect::{Effect, quiet};
 use crate::mode::Mode;
 use crate::registers::Registers;
-use access::{Bay, Cause};
+use access::{Cause, View};
 use store::Store;
 
-pub(crate) fn ldy<S: Store>(mode: Mode, r: Registers, store: &S, bay: &Bay) -> Result<Effect, Cause>
-    ensures { result ≡ does Ldy mode r bay.now (S.Store.bytes store.now) }
+pub(crate) fn ldy<S: Store>(mode: Mode, r: Registers, view: &View<S>) -> Result<Effect, Cause>
+    ensures { result ≡ does Ldy mode r view.now.bay view.now.bytes }
 {
-    let v = operand_half(mode, r, store, bay)?;
+    let v: u16 = operand(mode, r, view)?;
     Ok(quiet(Registers { y: v, ..r }))
 }
 
-pub(crate) fn ady<S: Store>(mode: Mode, r: Registers, store: &S, bay: &Bay) -> Result<Effect, Cause>
-    ensures { result ≡ does Ady mode r bay.now (S.Store.bytes store.now) }
+pub(crate) fn ady<S: Store>(mode: Mode, r: Registers, view: &View<S>) -> Result<Effect, Cause>
+    ensures { result ≡ does Ady mode r view.now.bay view.now.bytes }
 {
-    let v = operand_half(mode, r, store, bay)?;
+    let v: u16 = operand(mode, r, view)?;
     Ok(quiet(Registers {
         y: r.y.wrapping_add(v),
         ..r
     }))
 }
 
-pub(crate) fn sby<S: Store>(mode: Mode, r: Registers, store: &S, bay: &Bay) -> Result<Effect, Cause>
-    ensures { result ≡ does Sby mode r bay.now (S.Store.bytes store.now) }
+pub(crate) fn sby<S: Store>(mode: Mode, r: Registers, view: &View<S>) -> Result<Effect, Cause>
+    ensures { result ≡ does Sby mode r view.now.bay view.now.bytes }
 {
-    let v = operand_half(mode, r, store, bay)?;
+    let v: u16 = operand(mode, r, view)?;
     Ok(quiet(Registers {
         y: r.y.wrapping_sub(v),
         ..r
     }))
 }
 
-pub(crate) fn ldz<S: Store>(mode: Mode, r: Registers, store: &S, bay: &Bay) -> Result<Effect, Cause>
-    ensures { result ≡ does Ldz mode r bay.now (S.Store.bytes store.now) }
+pub(crate) fn ldz<S: Store>(mode: Mode, r: Registers, view: &View<S>) -> Result<Effect, Cause>
+    ensures { result ≡ does Ldz mode r view.now.bay view.now.bytes }
 {
-    let v = operand_half(mode, r, store, bay)?;
+    let v: u16 = operand(mode, r, view)?;
     Ok(quiet(Registers { z: v, ..r }))
 }
 
-pub(crate) fn adz<S: Store>(mode: Mode, r: Registers, store: &S, bay: &Bay) -> Result<Effect, Cause>
-    ensures { result ≡ does Adz mode r bay.now (S.Store.bytes store.now) }
+pub(crate) fn adz<S: Store>(mode: Mode, r: Registers, view: &View<S>) -> Result<Effect, Cause>
+    ensures { result ≡ does Adz mode r view.now.bay view.now.bytes }
 {
-    let v = operand_half(mode, r, store, bay)?;
+    let v: u16 = operand(mode, r, view)?;
     Ok(quiet(Registers {
         z: r.z.wrapping_add(v),
         ..r
     }))
 }
 
-pub(crate) fn sbz<S: Store>(mode: Mode, r: Registers, store: &S, bay: &Bay) -> Result<Effect, Cause>
-    ensures { result ≡ does Sbz mode r bay.now (S.Store.bytes store.now) }
+pub(crate) fn sbz<S: Store>(mode: Mode, r: Registers, view: &View<S>) -> Result<Effect, Cause>
+    ensures { result ≡ does Sbz mode r view.now.bay view.now.bytes }
 {
-    let v = operand_half(mode, r, store, bay)?;
+    let v: u16 = operand(mode, r, view)?;
     Ok(quiet(Registers {
         z: r.z.wrapping_sub(v),
         ..r
     }))
 }
 
-pub(crate) fn bi<S: Store>(mode: Mode, r: Registers, store: &S, bay: &Bay) -> Result<Effect, Cause>
-    ensures { result ≡ does Bi mode r bay.now (S.Store.bytes store.now) }
+pub(crate) fn bi<S: Store>(mode: Mode, r: Registers, view: &View<S>) -> Result<Effect, Cause>
+    ensures { result ≡ does Bi mode r view.now.bay view.now.bytes }
 {
-    let v = operand_half(mode, r, store, bay)?;
+    let v: u16 = operand(mode, r, view)?;
     Ok(quiet(Registers { s: v, ..r }))
 }
 
-pub(crate) fn bli<S: Store>(mode: Mode, r: Registers, store: &S, bay: &Bay) -> Result<Effect, Cause>
-    ensures { result ≡ does Bli mode r bay.now (S.Store.bytes store.now) }
+pub(crate) fn bli<S: Store>(mode: Mode, r: Registers, view: &View<S>) -> Result<Effect, Cause>
+    ensures { result ≡ does Bli mode r view.now.bay view.now.bytes }
 {
-    let v = operand_half(mode, r, store, bay)?;
+    let v: u16 = operand(mode, r, view)?;
     Ok(quiet(Registers { s: v, ..r.link() }))
 }

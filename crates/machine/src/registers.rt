@@ -1,11 +1,12 @@
-ghost use Rattle.machine.specs.Registers.{advanced, computed_a, computed_x, divided, jumped, linked, loaded_a, loaded_x, marked};
+ghost use Rattle.machine.specs.Registers.{advanced, computed_a, computed_x, divided, jumped, linked, loaded_a, loaded_x, marked, signed};
 ghost use Rattle.std.specs.Prelude.{◌≡◌};
 
+use word::Register;
 use word::arithmetic::Outcome;
 
 // The registers and markers of a program. A and B have 32 bits; X, Y, Z, S and L have 16.
 // FM is floating mode, N negative, ZR zero, OF overflow, CA carry.
-#[derive(Clone, Copy)]
+#[derive(Clone, Copy, Debug, Default, PartialEq, Eq)]
 pub struct Registers {
     pub a: u32,
     pub b: u32,
@@ -22,14 +23,24 @@ pub struct Registers {
 }
 
 impl Registers {
+    // N tells the sign of a value, and ZR whether it is zero.
+    pub(crate) fn sign<R: Register>(self, value: R) -> Registers
+        ensures { result ≡ signed R.width self (R.bits value) }
+    {
+        Registers {
+            n: value.signed() < 0,
+            zr: value.unsigned() == 0,
+            ..self
+        }
+    }
+
+    // Loading and computing are said of A and of X apart: a type parameter names no field.
     pub(crate) fn load_a(self, value: u32) -> Registers
         ensures { result ≡ loaded_a self value }
     {
         Registers {
             a: value,
-            n: value >= 0x8000_0000,
-            zr: value == 0,
-            ..self
+            ..self.sign(value)
         }
     }
 
@@ -38,9 +49,7 @@ impl Registers {
     {
         Registers {
             x: value,
-            n: value >= 0x8000,
-            zr: value == 0,
-            ..self
+            ..self.sign(value)
         }
     }
 

@@ -1,12 +1,13 @@
-ghost use Rattle.access.specs.Access.{sight};
+ghost use Rattle.access.specs.Access.{sight_of};
 ghost use Rattle.machine.specs.Act.{perform};
-ghost use Rattle.machine.specs.Strings.{complete, compared, judged, moved_byte, moved_half, nearer, passed, scanned, translated};
+ghost use Rattle.machine.specs.Strings.{complete, compared, judged, moved_byte, moved_half, nearer, passed, scanned, transferred, translated};
 ghost use Rattle.std.specs.Prelude.{◌≡◌};
 
 use crate::address::at_place;
-use crate::effect::{Effect, Pending, quiet};
+use crate::effect::{Effect, Stored, quiet};
 use crate::registers::Registers;
-use access::{Bay, Cause, Place, may_write_byte, may_write_half, read_byte, read_half};
+use crate::stores::put;
+use access::{Cause, Item, Place, View};
 use store::Store;
 
 // X moved by one towards zero.
@@ -62,79 +63,62 @@ fn judge(r: Registers, x: u16, ends: bool, negative: bool) -> Registers
     }
 }
 
-pub(crate) fn move_byte<S: Store>(
-    r: Registers,
-    x: u16,
-    store: &S,
-    bay: &Bay,
+fn transfer<T: Stored, S: Store>(
+    from: u16,
+    to: u16,
+    after: Registers,
+    view: &View<S>,
 ) -> Result<Effect, Cause>
-    ensures { result ≡ perform (sight bay.now (S.Store.bytes store.now)) (moved_byte r x) }
+    ensures { result ≡ perform (sight_of view.now) (transferred T.Item.item from to after) }
 {
-    let moved = at_place(Place::Operand, read_byte(store, bay, r.z.wrapping_add(x)))?;
-    let to = r.y.wrapping_add(x);
-    at_place(Place::Operand, may_write_byte(bay, to))?;
-    Ok(Effect {
-        registers: pass(r, x),
-        pending: Pending::Byte(to, moved),
-    })
+    let moved: T = at_place(Place::Operand, T::read(view, from))?;
+    put(to, moved, after, view)
 }
 
-pub(crate) fn move_half<S: Store>(
-    r: Registers,
-    x: u16,
-    store: &S,
-    bay: &Bay,
-) -> Result<Effect, Cause>
-    ensures { result ≡ perform (sight bay.now (S.Store.bytes store.now)) (moved_half r x) }
+// The step of an element takes the registers, the new X and the view, as its rule takes the registers and the new X: a value of the three
+// would be made for one call.
+// Bytes and halfwords have a function each: the places of bytes are not multiplied by 1 in the rules, nor here.
+pub(crate) fn move_byte<S: Store>(r: Registers, x: u16, view: &View<S>) -> Result<Effect, Cause>
+    ensures { result ≡ perform (sight_of view.now) (moved_byte r x) }
 {
-    let moved = at_place(
-        Place::Operand,
-        read_half(store, bay, r.z.wrapping_add(x.wrapping_mul(2))),
-    )?;
-    let to = r.y.wrapping_add(x.wrapping_mul(2));
-    at_place(Place::Operand, may_write_half(bay, to))?;
-    Ok(Effect {
-        registers: pass(r, x),
-        pending: Pending::Half(to - to % 2, moved),
-    })
+    transfer::<u8, S>(r.z.wrapping_add(x), r.y.wrapping_add(x), pass(r, x), view)
 }
 
-pub(crate) fn translate<S: Store>(
-    r: Registers,
-    x: u16,
-    store: &S,
-    bay: &Bay,
-) -> Result<Effect, Cause>
-    ensures { result ≡ perform (sight bay.now (S.Store.bytes store.now)) (translated r x) }
+pub(crate) fn move_half<S: Store>(r: Registers, x: u16, view: &View<S>) -> Result<Effect, Cause>
+    ensures { result ≡ perform (sight_of view.now) (moved_half r x) }
+{
+    let distance = x.wrapping_mul(2);
+    transfer::<u16, S>(
+        r.z.wrapping_add(distance),
+        r.y.wrapping_add(distance),
+        pass(r, x),
+        view,
+    )
+}
+
+pub(crate) fn translate<S: Store>(r: Registers, x: u16, view: &View<S>) -> Result<Effect, Cause>
+    ensures { result ≡ perform (sight_of view.now) (translated r x) }
 {
     let at = r.y.wrapping_add(x);
-    let old = at_place(Place::Operand, read_byte(store, bay, at))?;
-    let new = at_place(
-        Place::Operand,
-        read_byte(store, bay, r.z.wrapping_add(old as u16)),
-    )?;
-    at_place(Place::Operand, may_write_byte(bay, at))?;
-    Ok(Effect {
-        registers: pass(r, x),
-        pending: Pending::Byte(at, new),
-    })
+    let old = at_place(Place::Operand, u8::read(view, at))?;
+    transfer::<u8, S>(r.z.wrapping_add(u16::from(old)), at, pass(r, x), view)
 }
 
-pub(crate) fn compare<S: Store>(r: Registers, x: u16, store: &S, bay: &Bay) -> Result<Effect, Cause>
-    ensures { result ≡ perform (sight bay.now (S.Store.bytes store.now)) (compared r x) }
+pub(crate) fn compare<S: Store>(r: Registers, x: u16, view: &View<S>) -> Result<Effect, Cause>
+    ensures { result ≡ perform (sight_of view.now) (compared r x) }
 {
-    let one = at_place(Place::Operand, read_byte(store, bay, r.z.wrapping_add(x)))?;
-    let other = at_place(Place::Operand, read_byte(store, bay, r.y.wrapping_add(x)))?;
+    let one = at_place(Place::Operand, u8::read(view, r.z.wrapping_add(x)))?;
+    let other = at_place(Place::Operand, u8::read(view, r.y.wrapping_add(x)))?;
     Ok(quiet(judge(r, x, one != other, one < other)))
 }
 
-pub(crate) fn scan<S: Store>(r: Registers, x: u16, store: &S, bay: &Bay) -> Result<Effect, Cause>
-    ensures { result ≡ perform (sight bay.now (S.Store.bytes store.now)) (scanned r x) }
+pub(crate) fn scan<S: Store>(r: Registers, x: u16, view: &View<S>) -> Result<Effect, Cause>
+    ensures { result ≡ perform (sight_of view.now) (scanned r x) }
 {
-    let byte = at_place(Place::Operand, read_byte(store, bay, r.y.wrapping_add(x)))?;
+    let byte = at_place(Place::Operand, u8::read(view, r.y.wrapping_add(x)))?;
     let entry = at_place(
         Place::Operand,
-        read_byte(store, bay, r.z.wrapping_add(byte as u16)),
+        u8::read(view, r.z.wrapping_add(u16::from(byte))),
     )?;
-    Ok(quiet(judge(r, x, entry as u32 & r.a % 256 != 0, false)))
+    Ok(quiet(judge(r, x, u32::from(entry) & r.a % 256 != 0, false)))
 }

@@ -1,19 +1,13 @@
 // Runs a shore program over a file of records: recover BOOK IMAGE JOB
 #![tactic(auto)]
 
-mod names;
 mod report;
 mod work;
 
+use inputs::ended;
 use std::process::ExitCode;
 use work::recover;
 
 fn main(rt: HostRuntime) -> ExitCode {
-    match recover(&rt) {
-        Ok(()) => ExitCode::SUCCESS,
-        Err(e) => {
-            let _ = eprintln!(rt; "recover: {e}");
-            ExitCode::FAILURE
-        }
-    }
+    ended(&rt, "recover", recover(&rt))
 }

@@ -1,7 +1,7 @@
-use access::Cause;
-use job::{Job, Ran};
+use inputs::halted;
+use job::Ran;
 use machine::Registers;
-use std::io;
+use std::{fmt, io};
 
 // What the runs so far came to.
 #[derive(Clone, Copy)]
@@ -12,14 +12,7 @@ pub struct Tally {
     pub registers: Registers,
 }
 
-fn is_halt(ran: &Ran) -> bool {
-    match ran.stop {
-        Some(stop) => matches!(stop.cause, Cause::Halt),
-        None => false,
-    }
-}
-
-fn print_unhalted(rt: &HostRuntime, record: u64, ran: &Ran) -> io::Result<()> {
+fn print_unhalted(rt: &HostRuntime, record: u64, ran: Ran) -> io::Result<()> {
     let steps = ran.steps;
     let registers = ran.registers;
     match ran.stop {
@@ -43,11 +36,11 @@ impl Tally {
     }
 
     // One run more; told where it did not halt.
-    pub fn count(&mut self, rt: &HostRuntime, ran: &Ran) -> io::Result<()> {
+    pub fn count(&mut self, rt: &HostRuntime, ran: Ran) -> io::Result<()> {
         self.records = self.records.saturating_add(1);
-        self.steps = self.steps.saturating_add(ran.steps as u64);
+        self.steps = self.steps.saturating_add(u64::from(ran.steps));
         self.registers = ran.registers;
-        if is_halt(ran) {
+        if halted(ran) {
             self.halted = self.halted.saturating_add(1);
             return Ok(());
         }
@@ -57,19 +50,17 @@ impl Tally {
     pub fn all_halted(&self) -> bool {
         self.records == self.halted
     }
+}
 
-    pub fn print(&self, rt: &HostRuntime, name: &str, job: &Job) -> io::Result<()> {
-        let Tally {
-            records,
-            steps,
-            halted,
-            registers,
-        } = *self;
-        let bay = job.number;
-        println!(rt; "job {name} in bay {bay}")?;
-        println!(rt; "records {records}")?;
-        println!(rt; "steps {steps}")?;
-        println!(rt; "halted {halted}")?;
-        println!(rt; "last registers, A B X Y Z S L FM N ZR OF CA: {registers}")
+impl fmt::Display for Tally {
+    fn fmt<W: fmt::Write>(&self, f: &mut fmt::Formatter<W>) -> fmt::Result {
+        writeln!(f, "records {}", self.records)?;
+        writeln!(f, "steps {}", self.steps)?;
+        writeln!(f, "halted {}", self.halted)?;
+        write!(
+            f,
+            "last registers, A B X Y Z S L FM N ZR OF CA: {}",
+            self.registers
+        )
     }
 }

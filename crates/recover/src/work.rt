@@ -1,12 +1,12 @@
-use crate::names::named_files;
 use crate::report::Tally;
-use anyhow::anyhow;
 use book::Book;
-use inputs::{parse_job, read_book, read_file, read_image, read_records, refuse_existing};
-use job::{Job, run_record};
-use std::fs::File;
-use std::io::Write;
-use store::{Owned, append_all};
+use inputs::{
+    Failure, parse_job, read_book, read_file, read_image, read_records, refuse_existing,
+    run_records, words, write_new,
+};
+use job::Job;
+use std::io;
+use store::Owned;
 
 // About a second's work.
 const STEPS_BETWEEN_NOTES: u64 = 20_000_000;
@@ -18,43 +18,48 @@ fn run_all(
     job: &Job,
     store: &mut Owned,
     records: &[u8],
-) -> anyhow::Result<(Tally, Vec<u8>)> {
+) -> Result<(Tally, Vec<u8>), Failure> {
     let mut tally = Tally::new(job.registers);
-    let mut results = Vec::new(rt.alloc());
     let mut noted: u64 = 0;
-    for counts in records.chunks(job.input.bytes().max(1)) {
-        let ran = run_record(book, job, store, counts);
-        tally.count(rt, &ran)?;
-        append_all(store, job.output.address, job.output.bytes(), &mut results)?;
-        if tally.steps.saturating_sub(noted) >= STEPS_BETWEEN_NOTES {
-            noted = tally.steps;
-            let done = tally.records;
-            eprintln!(rt; "{done} records")?;
-        }
-    }
+    let results = run_records(
+        rt.alloc(),
+        book,
+        job,
+        store,
+        records,
+        |ran| -> Result<(), Failure> {
+            tally.count(rt, ran)?;
+            if tally.steps.saturating_sub(noted) >= STEPS_BETWEEN_NOTES {
+                noted = tally.steps;
+                eprintln!(rt; "{} records", tally.records)?;
+            }
+            Ok(())
+        },
+    )?;
     Ok((tally, results))
 }
 
-fn write_results(rt: &HostRuntime, name: &str, results: &[u8]) -> anyhow::Result<()> {
-    let mut file = File::create_new(rt, name)?;
-    file.write_all(results)?;
-    let bytes = results.len();
-    println!(rt; "results {name}, {bytes} bytes")?;
-    Ok(())
+fn write_results(rt: &HostRuntime, name: &str, results: &[u8]) -> io::Result<()> {
+    write_new(rt, name, results)?;
+    println!(rt; "results {name}, {} bytes", results.len())
 }
 
-pub fn recover(rt: &HostRuntime) -> anyhow::Result<()> {
-    let (book, image, name) = named_files(rt)?;
+pub fn recover(rt: &HostRuntime) -> Result<(), Failure> {
+    let words = words(rt)?;
+    let [book, image, name] = words.as_slice() else {
+        return Err(Failure::Usage("recover BOOK IMAGE JOB"));
+    };
     let book = read_book(rt, book.as_str())?;
     let mut store = read_image(rt, image.as_str())?;
     let text = read_file(rt, name.as_str())?;
     let job = parse_job(rt, name.as_str(), &text)?;
-    refuse_existing(rt, job.results)?;
+    refuse_existing(rt, job.results, "the results file")?;
     let records = read_records(rt, &job)?;
     let (tally, results) = run_all(rt, &book, &job, &mut store, &records)?;
-    tally.print(rt, name.as_str(), &job)?;
+    println!(rt; "job {name} in bay {}\n{tally}", job.number)?;
     if !tally.all_halted() {
-        return Err(anyhow!("not every run halted, so no results are written"));
+        return Err(Failure::Unhalted("not every run halted, so no results are written"));
     }
-    write_results(rt, job.results, &results)
+    write_results(rt, job.results, &results)?;
+    Ok(())
 }

@@ -1,4 +1,5 @@
 // Jobs: each fault at least once, and one that is taken.
+use crate::answer::print_answer;
 use job::read_job;
 
 const JOBS: [&[u8]; 14] = [
@@ -18,21 +19,9 @@ const JOBS: [&[u8]; 14] = [
     b"# a job\nbay\t2\ngrant\tread\t256\t511\ngrant\twrite\t8192\t10239\n\nregisters\t0\t0\t0\t1\t2\t3\t4\ninput\t8192\t1024\noutput\t256\t4\nturns\t32\t4096\nrecords\ta\nresults\tb\n",
 ];
 
-fn print_answer(rt: &HostRuntime, text: &[u8]) -> anyhow::Result<()> {
-    match read_job(text) {
-        Ok(_) => println!(rt; "a job")?,
-        Err(refused) => {
-            let line = refused.line;
-            let fault = refused.fault;
-            println!(rt; "line {line}: {fault}")?;
-        }
-    }
-    Ok(())
-}
-
 pub fn print_jobs(rt: &HostRuntime) -> anyhow::Result<()> {
     for text in JOBS {
-        print_answer(rt, text)?;
+        print_answer(rt, "a job", read_job(text))?;
     }
     Ok(())
 }

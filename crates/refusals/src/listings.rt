@@ -1,4 +1,5 @@
 // Listings, under a book that has no instruction of its own: each fault at least once, and some that are taken.
+use crate::answer::print_answer;
 use book::Book;
 use listing::assemble_into;
 use store::Owned;
@@ -29,25 +30,16 @@ const ACCEPTED: [&[u8]; 3] = [
     b"0 HRK L 0 0 # then\n  2   halfwords -1 65535 -32768   0\n65534 word aBcD\n",
 ];
 
-fn print_answer(rt: &HostRuntime, text: &[u8]) -> anyhow::Result<()> {
+fn print_listing(rt: &HostRuntime, text: &[u8]) -> anyhow::Result<()> {
     let mut store = Owned::new(vec![in rt.alloc(); 0u8; 65536]?);
-    match assemble_into(&Book::new(), text, &mut store) {
-        Ok(()) => println!(rt; "assembled")?,
-        Err(refused) => {
-            let line = refused.line;
-            let fault = refused.fault;
-            println!(rt; "line {line}: {fault}")?;
-        }
-    }
+    let answer = assemble_into(&Book::new(), text, &mut store);
+    print_answer(rt, "assembled", answer)?;
     Ok(())
 }
 
 pub fn print_listings(rt: &HostRuntime) -> anyhow::Result<()> {
-    for text in REFUSED {
-        print_answer(rt, text)?;
-    }
-    for text in ACCEPTED {
-        print_answer(rt, text)?;
+    for text in REFUSED.iter().chain(&ACCEPTED) {
+        print_listing(rt, text)?;
     }
     Ok(())
 }

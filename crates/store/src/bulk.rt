@@ -4,6 +4,9 @@ ghost use Rattle.store.specs.Bulk.{taken, written};
 use crate::store::Store;
 use std::alloc::AllocError;
 
+// Here and below the address is counted beside the bytes, since it goes round at 65,535: of an enumerated place it would be computed anew
+// for each byte, by a remainder and a sum.
+
 // Bytes into a store, from an address on.
 pub fn write_all<S: Store>(store: &mut S, address: u16, bytes: &[u8])
     ensures { S.Store.bytes store.new ≡ written (S.Store.bytes store.old) address bytes.now }
@@ -25,7 +28,7 @@ pub fn append_all<S: Store>(
     ensures { OnOk result (out.new.items ≡ out.old.items ++ taken (S.Store.bytes store.now) address length) }
 {
     let mut from = address;
-    for _k in 0..length {
+    for _ in 0..length {
         out.push(store.read(from))?;
         from = from.wrapping_add(1);
     }
@@ -37,8 +40,8 @@ pub fn read_all<S: Store>(store: &S, address: u16, buffer: &mut [u8])
     ensures { buffer.new ≡ taken (S.Store.bytes store.now) address (length buffer.old) }
 {
     let mut next = address;
-    for k in 0..buffer.len() {
-        buffer[k] = store.read(next);
+    for byte in buffer.iter_mut() {
+        *byte = store.read(next);
         next = next.wrapping_add(1);
     }
 }

@@ -1,19 +1,20 @@
 ghost use Rattle.store.specs.Check.{numbered, sized};
 ghost use Rattle.std.specs.Prelude.{◌≡◌, length};
 
+use thiserror::Error;
+
 // Why a store cannot be made.
-#[derive(Clone, Copy)]
+#[derive(Clone, Copy, Debug, PartialEq, Eq, Error)]
 pub enum Unmade {
-    Size,
+    #[error("a store has 65536 bytes")]
+    Size = 8,
 }
 
 impl Unmade {
     pub fn number(self) -> u8
         ensures { result ≡ Rattle.store.specs.Check.number self }
     {
-        match self {
-            Unmade::Size => 8,
-        }
+        self as u8
     }
 }
 

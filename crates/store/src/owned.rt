@@ -1,3 +1,4 @@
+ghost use Rattle.std.proofs.Common.{sym, ◌∙◌};
 ghost use Rattle.std.specs.Prelude.{◌≡◌, vec_len};
 
 use crate::store::Store;
@@ -22,7 +23,7 @@ impl Owned {
 impl Store for Owned {
     ghost bytes = { λ s. s.held.items };
 
-    fn sized(&self) {}
+    ghost full = { λ s. sym s.held.ok.0 ∙ s.full };
 
     fn read(&self, address: u16) -> u8 {
         self.held[address as usize]

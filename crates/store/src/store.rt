@@ -4,13 +4,11 @@ ghost use Rattle.std.specs.Prelude.{◌≡◌, ℕ, List, length, slice_index, s
 pub trait Store {
     ghost bytes: { Self → List ℕ };
 
-    // Says how many bytes there are, to a proof that wants to know.
-    fn sized(&self)
-        ensures { length (bytes self.now) ≡ 65536 };
-
     fn read(&self, address: u16) -> u8
         ensures { result ≡ slice_index (bytes self.now) address };
 
     fn write(&mut self, address: u16, byte: u8)
         ensures { bytes self.new ≡ slice_set (bytes self.old) address byte };
+
+    ghost full: { (store : Self) → length (bytes store) ≡ 65536 };
 }

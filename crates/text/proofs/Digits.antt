@@ -1,14 +1,7 @@
-use Rattle.std.proofs.Common.{◌≡◌, ℕ, ◌+◌, ◌-◌, ◌*◌, ◌<◌, ◌≤◌, true, cond, ◌&&◌, leb, List, [], ◌∷◌, length, get_or, drop, Some, None, refl, subst, arith}
-use Rattle.std.proofs.lemmas.List.{at_drop_more, at_drop_all}
+use Rattle.std.proofs.Common.{◌≡◌, ℕ, ◌+◌, ◌-◌, ◌*◌, ◌<◌, true, ◌&&◌, leb, List, [], ◌∷◌, Some, None, refl, subst, arith}
 use Rattle.std.proofs.lemmas.Bool.{cond_both, lt-leb, and_right, cond-false}
 use Rattle.text.specs.Search.{Bytes}
 use Rattle.text.specs.Numbers.{digits, no_number, number_of}
-
-pub digits_more : (low high n : ℕ) (s : List ℕ) (i : ℕ) → i < length s → digits low high n (drop i s) ≡ cond (leb 48 (get_or s i 0) && leb (get_or s i 0) 57) (digits low high (n * 10 + (get_or s i 0 - 48)) (drop (i + 1) s)) None
-digits_more low high n s i h = at_drop_more (digits low high n) s i 0 h
-
-pub digits_all : (low high n : ℕ) (s : List ℕ) (i : ℕ) → length s ≤ i → digits low high n (drop i s) ≡ cond (leb low n && leb n high) (Some n) None
-digits_all low high n s i h = at_drop_all (digits low high n) s i h
 
 -- more digits never make a number smaller
 pub digits_past : (low high n : ℕ) (s : List ℕ) → high < n → digits low high n s ≡ None

@@ -1,6 +1,6 @@
-use Rattle.std.specs.Prelude.{ℕ, ◌+◌, cond, drop, Some, None, Option}
+use Rattle.std.specs.Prelude.{◌≡◌, ℕ, ◌+◌, cond, Some, None, Ok, Err, Option, Result}
 use Rattle.text.specs.declared.line.Line.{Line}
-use Rattle.text.specs.declared.line.Line.TheVariants.{Text, End, Unended}
+use Rattle.text.specs.declared.line.Unended.{Unended}
 use Rattle.text.specs.declared.lines.Lines.{Lines}
 use Rattle.text.specs.Search.{Bytes, cut_at, empty}
 
@@ -10,14 +10,20 @@ pub data First : Type 0 where
   the_end : First
   unended : First
 
-abbrev pub shown : Line → First
-shown (Text s) = a_line s.now
-shown End = the_end
-shown Unended = unended
+abbrev pub shown : Result (Option Line) Unended → First
+shown (Ok (Some l)) = a_line l.text.now
+shown (Ok None) = the_end
+shown (Err e) = unended
+
+-- a line, ended or not, has the number n
+abbrev pub Numbered : ℕ → Result (Option Line) Unended → Type 0
+Numbered n (Ok (Some l)) = l.number ≡ n
+Numbered n (Ok None) = Unit {0}
+Numbered n (Err e) = e.line ≡ n
 
 -- what is left of the text
 abbrev pub left : Lines → Bytes
-left r = drop r.at r.text.now
+left r = r.rest.now
 
 abbrev pub line_2 : Option (Bytes × Bytes) → First
 line_2 None = unended

@@ -13,3 +13,7 @@ no_number s = length s == 0 || (slice_index s 0 == 48 && nat_lt 1 (length s))
 -- a number from low to high: digits alone, and no zero in front of another digit
 abbrev pub number_of : ℕ → ℕ → Bytes → Option ℕ
 number_of low high s = cond (no_number s) None (digits low high 0 s)
+
+-- the value of a hexadecimal digit, in either case
+abbrev pub hex_digit : ℕ → Option ℕ
+hex_digit d = cond (nat_le 48 d && nat_le d 57) (Some (d - 48)) (cond (nat_le 65 d && nat_le d 70) (Some (d - 55)) (cond (nat_le 97 d && nat_le d 102) (Some (d - 87)) None))

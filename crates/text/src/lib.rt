@@ -6,7 +6,7 @@ mod next;
 mod number;
 mod search;
 
-pub use line::Line;
+pub use line::{Line, Unended};
 pub use lines::Lines;
-pub use number::decimal;
-pub use search::{cut, find, same_text};
+pub use number::{decimal, hex_digit};
+pub use search::{cut, find};

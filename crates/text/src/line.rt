@@ -1,7 +1,12 @@
-// What a text has next: a line without its line feed, nothing more, or a last line that lacks its line feed.
-#[derive(Clone, Copy)]
-pub enum Line<'a> {
-    Text(&'a [u8]),
-    End,
-    Unended,
+// A line without its line feed, and its number.
+#[derive(Clone, Copy, PartialEq, Eq, Debug)]
+pub struct Line<'a> {
+    pub number: usize,
+    pub text: &'a [u8],
+}
+
+// The last line, which has this number, lacks its line feed.
+#[derive(Clone, Copy, PartialEq, Eq, Debug)]
+pub struct Unended {
+    pub line: usize,
 }

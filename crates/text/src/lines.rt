@@ -1,11 +1,9 @@
-ghost use Rattle.std.specs.Prelude.{◌+◌, ◌≤◌, length};
+ghost use Rattle.std.specs.Prelude.{◌+◌, ◌^◌, ◌≤◌, length};
 
-// A text that is read line by line: the place of what is left, and the number of the line that begins there.
+// A text that is read line by line: what is left of it, and the number of the line that begins there.
 #[derive(Drop)]
 pub struct Lines<'a> {
-    pub text: &'a [u8],
-    pub at: usize,
+    pub rest: &'a [u8],
     pub line: usize,
-    ghost within: { at ≤ length text.now },
-    ghost counted: { line ≤ at + 1 },
+    ghost counted: { line + length rest.now ≤ 2 ^ 63 },
 }

@@ -1,36 +1,35 @@
 ghost use Rattle.std.specs.Prelude.{◌≡◌};
-ghost use Rattle.text.specs.Next.{shown, line_of, rest_of, line_after, left};
+ghost use Rattle.text.specs.Next.{shown, line_of, rest_of, line_after, left, Numbered};
 
-use crate::line::Line;
+use crate::line::{Line, Unended};
 use crate::lines::Lines;
-use crate::search::find;
+use crate::search::cut;
 
 impl<'a> Lines<'a> {
     pub fn new(text: &'a [u8]) -> Lines<'a>
-        ensures { (result.text.now ≡ text.now) × ((result.at ≡ 0) × (result.line ≡ 1)) }
+        ensures rest { left result ≡ text.now }
+        ensures line { result.line ≡ 1 }
     {
         Lines {
-            text,
-            at: 0,
+            rest: text,
             line: 1,
         }
     }
 
-    pub fn next_line(&mut self) -> Line<'a>
+    // The next line, if there is one. A last line that is not ended is refused at each call, so this ends no `for`.
+    pub fn next_line(&mut self) -> Result<Option<Line<'a>>, Unended>
         ensures answer { shown result ≡ line_of (left self.old) }
+        ensures numbered { Numbered self.old.line result }
         ensures rest { left self.new ≡ rest_of (left self.old) }
         ensures number { self.new.line ≡ line_after (left self.old) self.old.line }
     {
-        let left = &self.text[self.at..];
-        if left.is_empty() {
-            return Line::End;
+        if self.rest.is_empty() {
+            return Ok(None);
         }
-        let end = find(left, b'\n');
-        if end == left.len() {
-            return Line::Unended;
-        }
-        self.at += end + 1;
+        let number = self.line;
+        let (text, rest) = cut(self.rest, b'\n').ok_or(Unended { line: number })?;
+        self.rest = rest;
         self.line += 1;
-        Line::Text(&left[0..end])
+        Ok(Some(Line { number, text }))
     }
 }

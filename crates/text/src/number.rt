@@ -1,11 +1,11 @@
-ghost use Rattle.std.specs.Prelude.{◌≡◌, ◌≤◌, IfSome};
+ghost use Rattle.std.specs.Prelude.{◌≡◌, ◌<◌, ◌≤◌, IfSome};
 ghost use Rattle.text.specs.Numbers.{number_of};
 
 // No digit at all, or a zero in front of another digit.
 fn no_number(s: &[u8]) -> bool
     ensures { result ≡ Rattle.text.specs.Numbers.no_number s.now }
 {
-    s.is_empty() || (s[0] == b'0' && s.len() > 1)
+    matches!(s, [] | [b'0', _, ..])
 }
 
 // The number from low to high that the digits spell, of whatever length, with no leading zero and no sign.
@@ -19,16 +19,25 @@ pub fn decimal(s: &[u8], low: u32, high: u32) -> Option<u32>
     let mut n: u64 = 0;
     for d in s {
         match *d {
-            b'0'..=b'9' => n = n * 10 + (*d as u64 - 48),
+            b'0'..=b'9' => n = n * 10 + u64::from(*d - b'0'),
             _ => return None,
         }
-        if n > high as u64 {
+        if n > u64::from(high) {
             return None;
         }
     }
-    if low as u64 <= n {
-        Some(n as u32)
-    } else {
-        None
+    (u64::from(low) <= n).then_some(n as u32)
+}
+
+// The value of a hexadecimal digit, in either case.
+pub fn hex_digit(byte: u8) -> Option<u8>
+    ensures is { result ≡ Rattle.text.specs.Numbers.hex_digit byte }
+    ensures within { IfSome result (λ v. v < 16) }
+{
+    match byte {
+        b'0'..=b'9' => Some(byte - b'0'),
+        b'A'..=b'F' => Some(byte - b'A' + 10),
+        b'a'..=b'f' => Some(byte - b'a' + 10),
+        _ => None,
     }
 }

@@ -1,5 +1,5 @@
 -- A step changes bytes only under write grants, and only where its operand lies.
-use Rattle.std.proofs.Common.{◌≡◌, ℕ, ◌+◌, ◌/◌, ◌%◌, Bool, true, false, ◌&&◌, ◌||◌, eqb, List, [], get_or, set, Ok, Err, Result, sym, refl, ap, ◌∙◌, subst, ⊎_elim, arith, get_or-set_other}
+use Rattle.std.proofs.Common.{◌≡◌, ℕ, ◌+◌, ◌/◌, ◌%◌, Bool, true, false, ◌&&◌, ◌||◌, eqb, List, [], get_or, set, Some, Ok, Err, Result, sym, refl, ap, ◌∙◌, subst, ⊎_elim, arith, get_or-set_other}
 use Rattle.std.proofs.lemmas.Bool.{cases_Bool, eqb-false, eqb-true, false≢true, or_parts}
 use Rattle.code.specs.declared.reading.Reading.{Reading}
 use Rattle.access.specs.Access.{Item, aligned, allows, bind, byte, checked, full, half, half_may, item_may, sight}
@@ -13,7 +13,7 @@ use Rattle.machine.specs.Plan.{obey, placed}
 use Rattle.machine.specs.declared.effect.Effect.{Effect}
 use Rattle.machine.specs.declared.registers.Registers.{Registers}
 use Rattle.turns.specs.Laws.{Only, among, item_bytes, operand_granted, target}
-use Rattle.turns.specs.Step.{bytes_after, half_into, into, planned, stepped, stopped}
+use Rattle.turns.specs.Step.{bytes_after, committed, half_into, into, planned, stepped, stopped}
 
 -- a byte that is not written stays
 other : (bs : List ℕ) (b a v : ℕ) → eqb a b ≡ false → get_or (set bs b v) a 0 ≡ get_or bs a 0
@@ -78,16 +78,16 @@ module _ (bay : Bay) (bs : List ℕ) where
       (λ f. item_only i at w bs a f)
       (cases_Bool (among a (item_bytes i at)))
 
-  bind_kept : {T : Type 0} (o : Result T Cause) (k : T → Result Effect Cause) (g : T → List ℕ) (e : Effect) → bind o k ≡ Ok e → ((x : T) → k x ≡ Ok e → Kept (g x) (into bs e.pending)) → Kept (elim o [ Ok x ↦ g x | Err c ↦ [] ]) (into bs e.pending)
+  bind_kept : {T : Type 0} (o : Result T Cause) (k : T → Result Effect Cause) (g : T → List ℕ) (e : Effect) → bind o k ≡ Ok e → ((x : T) → k x ≡ Ok e → Kept (g x) (committed bs e.pending)) → Kept (elim o [ Ok x ↦ g x | Err c ↦ [] ]) (committed bs e.pending)
   bind_kept (Ok x) k g e h q = q x h
   bind_kept (Err c) k g e h q = let z : ◌≡◌ {A = ℕ} 0 1 = cc in absurd (omega arith)
 
   -- of every instruction
-  act_kept : (t : Act) (e : Effect) → perform (sight bay bs) t ≡ Ok e → Kept (target (sight bay bs) t) (into bs e.pending)
-  act_kept (done r) e h = let q : still r ≡ e = cc in subst (λ (x : Effect). Kept [] (into bs x.pending)) q (λ a k. refl)
+  act_kept : (t : Act) (e : Effect) → perform (sight bay bs) t ≡ Ok e → Kept (target (sight bay bs) t) (committed bs e.pending)
+  act_kept (done r) e h = let q : still r ≡ e = cc in subst (λ (x : Effect). Kept [] (committed bs x.pending)) q (λ a k. refl)
   act_kept (store i at w r) e h =
-      let k = left_for _ (item_may i (checked bay Write) at) (record { registers = r; pending = pending i at w }) e h in
-      subst (λ (x : Effect). Kept (item_bytes i at) (into bs x.pending)) k.1 (item_kept i at w k.0)
+      let k = left_for _ (item_may i (checked bay Write) at) (record { registers = r; pending = Some (pending i at w) }) e h in
+      subst (λ (x : Effect). Kept (item_bytes i at) (committed bs x.pending)) k.1 (item_kept i at w k.0)
   act_kept (fail c) e h = let z : ◌≡◌ {A = ℕ} 0 1 = cc in absurd (omega arith)
   act_kept (t >>= f) e h = bind_kept (obey (sight bay bs) t) (λ x. perform (sight bay bs) (f x)) (λ x. target (sight bay bs) (f x)) e h (λ x k. act_kept (f x) e k)
 

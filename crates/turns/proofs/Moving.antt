@@ -25,7 +25,7 @@ use Rattle.machine.specs.declared.effect.Effect.{Effect}
 use Rattle.machine.specs.declared.mode.Mode.{Mode}
 use Rattle.machine.specs.declared.registers.Registers.{Registers}
 use Rattle.turns.specs.Laws.{Apart, Each, Movable, MovesBytes, MovesHalfwords, Readable, Writable, copied, elements, places, value}
-use Rattle.turns.specs.Step.{begun, into, mode, stepped, stopped}
+use Rattle.turns.specs.Step.{begun, committed, into, mode, stepped, stopped}
 use Rattle.turns.specs.Turn.{Run, run}
 use Rattle.turns.proofs.Frame.{item_only}
 
@@ -121,11 +121,11 @@ each_with P Q R f (x ∷ xs) h g = (f x h.0 g.0, each_with P Q R f xs h.1 g.1)
 module _ (reads : ℕ → Reading) (bay : Bay) (name : Name) (i : Item) (at : ℕ → ℕ → ℕ)
     (rule : (t : Mode) (r : Registers) → executed name t r ≡ string (λ p x. moved i (at p.z) (at p.y) p x) r) where
   -- one element of a string that is granted
-  one : (r : Registers) (bs : List ℕ) (w : ℕ) → obey (sight bay bs) (fetch r.s) ≡ Ok w → reads w ≡ Defined name L 0 (pos 0) → eqb r.x 0 ≡ false → Readable bay i (at r.z (nearer r.x)) → Writable bay i (at r.y (nearer r.x)) → stepped reads r (sight bay bs) ≡ Ok (record { registers = passed (advanced r) (nearer r.x); pending = pending i (at r.y (nearer r.x)) (value i bs (at r.z (nearer r.x))) })
+  one : (r : Registers) (bs : List ℕ) (w : ℕ) → obey (sight bay bs) (fetch r.s) ≡ Ok w → reads w ≡ Defined name L 0 (pos 0) → eqb r.x 0 ≡ false → Readable bay i (at r.z (nearer r.x)) → Writable bay i (at r.y (nearer r.x)) → stepped reads r (sight bay bs) ≡ Ok (record { registers = passed (advanced r) (nearer r.x); pending = Some (pending i (at r.y (nearer r.x)) (value i bs (at r.z (nearer r.x)))) })
   one r bs w f d x p q =
       let v : Sight = sight bay bs in
       let x' : ℕ = nearer r.x in
-      let ends : Effect = record { registers = passed (advanced r) x'; pending = pending i (at r.y x') (value i bs (at r.z x')) } in
+      let ends : Effect = record { registers = passed (advanced r) x'; pending = Some (pending i (at r.y x') (value i bs (at r.z x'))) } in
       ap {B = Result Effect Stop} (λ o. stopped r.s (bind o (λ w. perform v (begun (reads w) (advanced r))))) f
       ∙ ap (λ c. stopped r.s (perform v (begun c (advanced r)))) d
       ∙ ap (λ t. stopped r.s (perform v t)) (rule (mode L 0 (pos 0)) (advanced r))
@@ -134,8 +134,8 @@ module _ (reads : ℕ → Reading) (bay : Bay) (name : Name) (i : Item) (at : �
       ∙ ap {B = Result Effect Stop} (λ o. stopped r.s (bind (placed Operand o) (λ _. Ok ends))) (item_may_ok bay i (at r.y x') q)
 
   -- a step that is completed, and the steps after it
-  on : (n k : ℕ) (r : Registers) (bs : List ℕ) (e : Effect) → stepped reads r (sight bay bs) ≡ Ok e → run reads bay (suc n) k r bs ≡ run reads bay n (k + 1) e.registers (into bs e.pending)
-  on n k r bs e h = ap (λ o. elim o [ Ok e ↦ run reads bay n (k + 1) e.registers (into bs e.pending) | Err t ↦ record { registers = r; bytes = bs; turned = record { steps = k; stop = Some t } } ]) h
+  on : (n k : ℕ) (r : Registers) (bs : List ℕ) (e : Effect) → stepped reads r (sight bay bs) ≡ Ok e → run reads bay (suc n) k r bs ≡ run reads bay n (k + 1) e.registers (committed bs e.pending)
+  on n k r bs e h = ap (λ o. elim o [ Ok e ↦ run reads bay n (k + 1) e.registers (committed bs e.pending) | Err t ↦ record { registers = r; bytes = bs; turned = record { steps = k; stop = Some t } } ]) h
 
   abbrev ended : ℕ → Registers → List ℕ → Run
   ended k r bs = record { registers = r; bytes = bs; turned = record { steps = k; stop = None } }

@@ -7,21 +7,21 @@ use Rattle.access.specs.declared.stop.Stop.{Stop}
 use Rattle.machine.specs.declared.effect.Effect.{Effect}
 use Rattle.machine.specs.declared.registers.Registers.{Registers}
 use Rattle.turns.specs.Laws.{Split, later, unless}
-use Rattle.turns.specs.Step.{into, stepped}
+use Rattle.turns.specs.Step.{committed, stepped}
 use Rattle.turns.specs.Turn.{Run, run}
 
 -- by how one step came out
 abbrev from : (Registers → List ℕ → Run) → ℕ → Registers → List ℕ → Result Effect Stop → Run
-from next k r bs (Ok e) = next e.registers (into bs e.pending)
+from next k r bs (Ok e) = next e.registers (committed bs e.pending)
 from next k r bs (Err t) = record { registers = r; bytes = bs; turned = record { steps = k; stop = Some t } }
 
 module _ (reads : ℕ → Reading) (bay : Bay) where
   first : (n k : ℕ) (r : Registers) (bs : List ℕ) (o : Result Effect Stop) → o ≡ stepped reads r (sight bay bs) → run reads bay (suc n) k r bs ≡ from (run reads bay n (k + 1)) k r bs o
-  first n k r bs (Ok e) h = ap (λ o. elim o [ Ok e ↦ run reads bay n (k + 1) e.registers (into bs e.pending) | Err t ↦ record { registers = r; bytes = bs; turned = record { steps = k; stop = Some t } } ]) (sym h)
-  first n k r bs (Err t) h = ap (λ o. elim o [ Ok e ↦ run reads bay n (k + 1) e.registers (into bs e.pending) | Err t ↦ record { registers = r; bytes = bs; turned = record { steps = k; stop = Some t } } ]) (sym h)
+  first n k r bs (Ok e) h = ap (λ o. elim o [ Ok e ↦ run reads bay n (k + 1) e.registers (committed bs e.pending) | Err t ↦ record { registers = r; bytes = bs; turned = record { steps = k; stop = Some t } } ]) (sym h)
+  first n k r bs (Err t) h = ap (λ o. elim o [ Ok e ↦ run reads bay n (k + 1) e.registers (committed bs e.pending) | Err t ↦ record { registers = r; bytes = bs; turned = record { steps = k; stop = Some t } } ]) (sym h)
 
   count_step : (n j k : ℕ) (r : Registers) (bs : List ℕ) → ((r' : Registers) (bs' : List ℕ) → run reads bay n (j + (k + 1)) r' bs' ≡ later j (run reads bay n (k + 1) r' bs')) → (o : Result Effect Stop) → from (run reads bay n (j + k + 1)) (j + k) r bs o ≡ later j (from (run reads bay n (k + 1)) k r bs o)
-  count_step n j k r bs rest (Ok e) = ap (λ m. run reads bay n m e.registers (into bs e.pending)) (add_assoc j k 1) ∙ rest e.registers (into bs e.pending)
+  count_step n j k r bs rest (Ok e) = ap (λ m. run reads bay n m e.registers (committed bs e.pending)) (add_assoc j k 1) ∙ rest e.registers (committed bs e.pending)
   count_step n j k r bs rest (Err t) = refl
 
   -- a turn that has counted j steps more
@@ -36,7 +36,7 @@ module _ (reads : ℕ → Reading) (bay : Bay) where
 
   split_step : (m n k : ℕ) (r : Registers) (bs : List ℕ) → ((r' : Registers) (bs' : List ℕ) → run reads bay (m + n) (k + 1) r' bs' ≡ (let q = run reads bay m (k + 1) r' bs' in onward n q q.turned.stop)) → (o : Result Effect Stop) → from (run reads bay (m + n) (k + 1)) k r bs o ≡ (let q = from (run reads bay m (k + 1)) k r bs o in onward n q q.turned.stop)
   unfolding onward
-  split_step m n k r bs rest (Ok e) = rest e.registers (into bs e.pending)
+  split_step m n k r bs rest (Ok e) = rest e.registers (committed bs e.pending)
   split_step m n k r bs rest (Err t) = refl
 
   split_on : (m n k : ℕ) (r : Registers) (bs : List ℕ) → run reads bay (m + n) k r bs ≡ (let q = run reads bay m k r bs in onward n q q.turned.stop)

@@ -6,7 +6,7 @@ use Rattle.access.specs.declared.bay.Bay.{Bay}
 use Rattle.access.specs.declared.stop.Stop.{Stop}
 use Rattle.machine.specs.declared.effect.Effect.{Effect}
 use Rattle.machine.specs.declared.registers.Registers.{Registers}
-use Rattle.turns.specs.Step.{answer, bytes_after, into, registers_after, stepped}
+use Rattle.turns.specs.Step.{answer, bytes_after, committed, registers_after, stepped}
 use Rattle.turns.specs.Turn.{Run, run}
 
 module _ (k : ℕ) (r r' : Registers) (bs bs' : List ℕ) where
@@ -14,14 +14,14 @@ module _ (k : ℕ) (r r' : Registers) (bs bs' : List ℕ) where
   stop_case (Ok e) f t p q s = let z : ◌≡◌ {A = ℕ} 0 1 = cc in absurd (omega arith)
   stop_case (Err u) f t p q s = cc
 
-  go_case : (o : Result Effect Stop) (w : Unit {0}) → Ok w ≡ answer o → r' ≡ registers_after r o → bs' ≡ bytes_after bs o → (f : Registers → List ℕ → Run) → (g : Stop → Run) → elim o [ Ok e ↦ f e.registers (into bs e.pending) | Err u ↦ g u ] ≡ f r' bs'
+  go_case : (o : Result Effect Stop) (w : Unit {0}) → Ok w ≡ answer o → r' ≡ registers_after r o → bs' ≡ bytes_after bs o → (f : Registers → List ℕ → Run) → (g : Stop → Run) → elim o [ Ok e ↦ f e.registers (committed bs e.pending) | Err u ↦ g u ] ≡ f r' bs'
   go_case (Ok e) w p q s f g = cc
   go_case (Err u) w p q s f g = let z : ◌≡◌ {A = ℕ} 0 1 = cc in absurd (omega arith)
 
 module _ (reads : ℕ → Reading) (bay : Bay) (r r' : Registers) (bs bs' : List ℕ) where
   pub run_stops : (n k : ℕ) (t : Stop) → 0 < n → Err t ≡ answer (stepped reads r (sight bay bs)) → r' ≡ registers_after r (stepped reads r (sight bay bs)) → bs' ≡ bytes_after bs (stepped reads r (sight bay bs)) → run reads bay n k r bs ≡ record { registers = r'; bytes = bs'; turned = record { steps = k; stop = Some t } }
   run_stops zero k t h p q s = absurd (omega arith)
-  run_stops (suc n) k t h p q s = stop_case k r r' bs bs' (stepped reads r (sight bay bs)) (λ e. run reads bay n (k + 1) e.registers (into bs e.pending)) t p q s
+  run_stops (suc n) k t h p q s = stop_case k r r' bs bs' (stepped reads r (sight bay bs)) (λ e. run reads bay n (k + 1) e.registers (committed bs e.pending)) t p q s
 
   pub run_goes : (n k : ℕ) (w : Unit {0}) → Ok w ≡ answer (stepped reads r (sight bay bs)) → r' ≡ registers_after r (stepped reads r (sight bay bs)) → bs' ≡ bytes_after bs (stepped reads r (sight bay bs)) → run reads bay (suc n) k r bs ≡ run reads bay n (k + 1) r' bs'
   run_goes n k w p q s = go_case k r r' bs bs' (stepped reads r (sight bay bs)) w p q s (λ r'' bs''. run reads bay n (k + 1) r'' bs'') (λ u. record { registers = r; bytes = bs; turned = record { steps = k; stop = Some u } })

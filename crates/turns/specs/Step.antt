@@ -1,5 +1,5 @@
 -- One step: fetch a halfword at s, add 2 to s, and obey what the word reads as.
-use Rattle.std.specs.Prelude.{ℕ, ◌+◌, ◌/◌, ◌%◌, Bool, true, false, cond, ◌&&◌, List, ℤ, Ok, Err, Result, slice_set}
+use Rattle.std.specs.Prelude.{ℕ, ◌+◌, ◌/◌, ◌%◌, Bool, true, false, cond, ◌&&◌, List, ℤ, Some, None, Ok, Err, Option, Result, slice_set}
 use Rattle.std.specs.Int.{w16}
 use mir.Val.{of_z}
 use Rattle.code.specs.declared.format.Format.{Format}
@@ -17,7 +17,7 @@ use Rattle.machine.specs.Plan.{fetch}
 use Rattle.machine.specs.Registers.{advanced}
 use Rattle.machine.specs.declared.effect.Effect.{Effect}
 use Rattle.machine.specs.declared.effect.Pending.{Pending}
-use Rattle.machine.specs.declared.effect.Pending.TheVariants.{Nothing, Byte, Half, Full}
+use Rattle.machine.specs.declared.effect.Pending.TheVariants.{Byte, Half, Full}
 use Rattle.machine.specs.declared.mode.Mode.{Mode}
 use Rattle.machine.specs.declared.registers.Registers.{Registers}
 
@@ -57,15 +57,19 @@ stopped s (Err c) = Err (record { cause = c; address = s })
 abbrev pub stepped : (ℕ → Reading) → Registers → Sight → Result Effect Stop
 stepped reads r v = stopped r.s (perform v (planned reads r))
 
--- what is written
+-- an item that is written
 abbrev pub half_into : List ℕ → ℕ → ℕ → List ℕ
 half_into bs at v = slice_set (slice_set bs at (v / 256)) ((at + 1) % 65536) (v % 256)
 
 abbrev pub into : List ℕ → Pending → List ℕ
-into bs Nothing = bs
 into bs (Byte at v) = slice_set bs at v
 into bs (Half at v) = half_into bs at v
 into bs (Full at v) = half_into (half_into bs at (v / 65536)) ((at + 2) % 65536) (v % 65536)
+
+-- what a step writes
+abbrev pub committed : List ℕ → Option Pending → List ℕ
+committed bs None = bs
+committed bs (Some p) = into bs p
 
 -- what a step answers, and what registers and bytes are after it: a stop alters nothing
 abbrev pub answer : Result Effect Stop → Result (Unit {0}) Stop
@@ -77,5 +81,5 @@ registers_after r (Ok e) = e.registers
 registers_after r (Err t) = r
 
 abbrev pub bytes_after : List ℕ → Result Effect Stop → List ℕ
-bytes_after bs (Ok e) = into bs e.pending
+bytes_after bs (Ok e) = committed bs e.pending
 bytes_after bs (Err t) = bs

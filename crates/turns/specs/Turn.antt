@@ -5,7 +5,7 @@ use Rattle.access.specs.Access.{sight}
 use Rattle.access.specs.declared.bay.Bay.{Bay}
 use Rattle.access.specs.declared.stop.Stop.{Stop}
 use Rattle.machine.specs.declared.registers.Registers.{Registers}
-use Rattle.turns.specs.Step.{into, stepped}
+use Rattle.turns.specs.Step.{committed, stepped}
 use Rattle.turns.specs.declared.turning.Turned.{Turned}
 
 -- a turn's answer: its steps, all spent, or those before a stop
@@ -24,4 +24,4 @@ pub record Run : Type 0 where
 -- at most n more steps, after k
 abbrev pub run : (ℕ → Reading) → Bay → ℕ → ℕ → Registers → List ℕ → Run
 run reads bay zero k r bs = record { registers = r; bytes = bs; turned = all_spent k }
-run reads bay (suc n) k r bs = elim (stepped reads r (sight bay bs)) [ Ok e ↦ run reads bay n (k + 1) e.registers (into bs e.pending) | Err t ↦ record { registers = r; bytes = bs; turned = stopped_after k t } ]
+run reads bay (suc n) k r bs = elim (stepped reads r (sight bay bs)) [ Ok e ↦ run reads bay n (k + 1) e.registers (committed bs e.pending) | Err t ↦ record { registers = r; bytes = bs; turned = stopped_after k t } ]

@@ -1,12 +1,12 @@
-ghost use Rattle.access.specs.Access.{sight};
+ghost use Rattle.access.specs.Access.{sight, sight_of};
 ghost use Rattle.access.specs.Stops.{told_of};
 ghost use Rattle.book.specs.Readings.{reading};
 ghost use Rattle.machine.specs.Act.{perform};
 ghost use Rattle.turns.specs.Laws.{Local, Only, Unaltered, operand_granted};
-ghost use Rattle.turns.specs.Step.{answer, begun, bytes_after, defined, format_a, half_into, into, planned, registers_after, stepped, stopped};
+ghost use Rattle.turns.specs.Step.{answer, begun, bytes_after, committed, defined, format_a, half_into, planned, registers_after, stepped, stopped};
 ghost use Rattle.std.specs.Prelude.{◌≡◌};
 
-use access::{Bay, Cause, Place, Stop, read_half};
+use access::{Bay, Cause, Item, Place, Stop, View};
 use book::Book;
 use code::{Format, Name, Reading};
 use machine::{Effect, Mode, Pending, Registers, at_place, execute};
@@ -16,49 +16,40 @@ use store::Store;
 fn at_address<T>(address: u16, res: Result<T, Cause>) -> Result<T, Stop>
     ensures { result ≡ stopped address res }
 {
-    match res {
-        Ok(value) => Ok(value),
-        Err(cause) => Err(Stop { cause, address }),
-    }
+    res.map_err(|cause| Stop { cause, address })
 }
 
 fn is_format_a(format: Format) -> bool
     ensures { result ≡ format_a format }
 {
-    match format {
-        Format::A1 | Format::A2 | Format::A3 | Format::A4 | Format::A5 => true,
-        Format::L | Format::B => false,
-    }
+    matches!(
+        format,
+        Format::A1 | Format::A2 | Format::A3 | Format::A4 | Format::A5
+    )
 }
 
 fn obey_defined<S: Store>(
     name: Name,
     mode: Mode,
     r: Registers,
-    store: &S,
-    bay: &Bay,
+    view: &View<S>,
 ) -> Result<Effect, Cause>
-    ensures { result ≡ perform (sight bay.now (S.Store.bytes store.now)) (defined name mode r) }
+    ensures { result ≡ perform (sight_of view.now) (defined name mode r) }
 {
     if is_format_a(mode.format) && r.fm {
         return Err(Cause::Floating);
     }
-    execute(name, mode, r, store, bay)
+    execute(name, mode, r, view)
 }
 
 // What a word reads as is obeyed; S is at the next one.
-fn obey_reading<S: Store>(
-    reading: Reading,
-    r: Registers,
-    store: &S,
-    bay: &Bay,
-) -> Result<Effect, Cause>
-    ensures { result ≡ perform (sight bay.now (S.Store.bytes store.now)) (begun reading r) }
+fn obey_reading<S: Store>(reading: Reading, r: Registers, view: &View<S>) -> Result<Effect, Cause>
+    ensures { result ≡ perform (sight_of view.now) (begun reading r) }
 {
     match reading {
         Reading::NoPattern => Err(Cause::NoPattern),
         Reading::Undefined => Err(Cause::Undefined),
-        Reading::Defined(name, format, m, d) => obey_defined(
+        Reading::Defined { name, format, m, d } => obey_defined(
             name,
             Mode {
                 format,
@@ -66,46 +57,49 @@ fn obey_reading<S: Store>(
                 d: d.cast_unsigned(),
             },
             r,
-            store,
-            bay,
+            view,
         ),
     }
 }
 
-fn plan<S: Store>(book: &Book, r: Registers, store: &S, bay: &Bay) -> Result<Effect, Cause>
-    ensures { result ≡ perform (sight bay.now (S.Store.bytes store.now)) (planned (reading book.now.tables) r) }
+fn plan<S: Store>(book: &Book, r: Registers, view: &View<S>) -> Result<Effect, Cause>
+    ensures { result ≡ perform (sight_of view.now) (planned (reading book.now.tables) r) }
 {
-    let word = at_place(Place::Fetch, read_half(store, bay, r.s))?;
-    obey_reading(book.reading(word), r.advance(), store, bay)
+    let word = at_place(Place::Fetch, u16::read(view, r.s))?;
+    obey_reading(book.reading(word), r.advance(), view)
 }
 
 fn attempt<S: Store>(book: &Book, r: Registers, store: &S, bay: &Bay) -> Result<Effect, Stop>
     ensures { result ≡ stepped (reading book.now.tables) r (sight bay.now (S.Store.bytes store.now)) }
 {
-    at_address(r.s, plan(book, r, store, bay))
+    at_address(r.s, plan(book, r, &View::new(store, bay)))
 }
 
 fn write_half<S: Store>(store: &mut S, at: u16, value: u16)
     ensures { S.Store.bytes store.new ≡ half_into (S.Store.bytes store.old) at value }
 {
-    store.write(at, (value / 256) as u8);
-    store.write(at.wrapping_add(1), (value % 256) as u8);
+    let [high, low] = value.to_be_bytes();
+    store.write(at, high);
+    store.write(at.wrapping_add(1), low);
 }
 
-fn commit<S: Store>(store: &mut S, pending: Pending)
-    ensures { S.Store.bytes store.new ≡ into (S.Store.bytes store.old) pending }
+fn commit<S: Store>(store: &mut S, pending: Option<Pending>)
+    ensures { S.Store.bytes store.new ≡ committed (S.Store.bytes store.old) pending }
 {
     match pending {
-        Pending::Nothing => {}
-        Pending::Byte(at, value) => store.write(at, value),
-        Pending::Half(at, value) => write_half(store, at, value),
-        Pending::Full(at, value) => {
+        None => {}
+        Some(Pending::Byte(at, value)) => store.write(at, value),
+        Some(Pending::Half(at, value)) => write_half(store, at, value),
+        // The halves by a quotient and a remainder: the library parts a fullword into bytes, and the rules write two halfwords.
+        Some(Pending::Full(at, value)) => {
             write_half(store, at, (value / 65536) as u16);
             write_half(store, at.wrapping_add(2), (value % 65536) as u16);
         }
     }
 }
 
+// The equations of a step, without its laws. Book, registers, store and bay stay four parameters: a hall holds each of them in
+// another place, so that one value of the four would be made for each call, and each clause would name its fields.
 pub(crate) fn obey_next<S: Store>(
     book: &Book,
     registers: &mut Registers,

@@ -10,7 +10,7 @@ use machine::Registers;
 use store::Store;
 
 // The steps that a turn completed, and the stop that it met; without one its budget is spent.
-#[derive(Clone, Copy)]
+#[derive(Clone, Copy, Debug, PartialEq, Eq)]
 pub struct Turned {
     pub steps: u16,
     pub stop: Option<Stop>,

@@ -20,9 +20,17 @@ told w v exact c = record { value = v; negative = int_lt exact (pos 0); zero = (
 abbrev pub outcome : Width → ℤ → Bool → Outcome ℕ
 outcome w exact c = told w (cut w exact) exact c
 
+-- an outcome by the bits of its value
+abbrev pub in_bits : {T : Type 0} → (T → ℕ) → Outcome T → Outcome ℕ
+in_bits bits_of o = record { value = bits_of o.value; negative = o.negative; zero = o.zero; overflow = o.overflow; carry = o.carry }
+
+-- a number without sign that does not fit the register
+abbrev pub beyond : Width → ℕ → Bool
+beyond w n = nat_le (2 ^ bits w) n
+
 -- the carry, or the borrow, out of the sign bit
 abbrev pub sum : Width → ℕ → ℕ → Outcome ℕ
-sum w a b = outcome w (to_z w a +ℤ to_z w b) (nat_le (2 ^ bits w) (a + b))
+sum w a b = outcome w (to_z w a +ℤ to_z w b) (beyond w (a + b))
 
 abbrev pub difference : Width → ℕ → ℕ → Outcome ℕ
 difference w a b = outcome w (to_z w a -ℤ to_z w b) (nat_lt a b)

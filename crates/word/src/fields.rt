@@ -1,6 +1,8 @@
 ghost use Rattle.std.specs.Prelude.{◌≡◌, ◌+◌, ◌-◌, ◌*◌, ◌/◌, ◌%◌, ◌^◌, ◌<◌, ◌≤◌, IfSome};
 ghost use Rattle.word.specs.Fields.{as_signed, unsigned_in, signed_in};
 
+// Each count below 16 is asked for and not a type of its own: every caller passes a literal, where the bound computes.
+
 // So many ones.
 fn mask(count: u16) -> u16
     requires { count < 16 }
@@ -50,11 +52,7 @@ pub fn unsigned_field(number: i32, limit: u16) -> Option<u16>
     ensures is { result ≡ unsigned_in limit number }
     ensures within { IfSome result (λ x. x < limit) }
 {
-    if 0 <= number && number < limit as i32 {
-        Some(number as u16)
-    } else {
-        None
-    }
+    u16::try_from(number).ok().filter(|field| *field < limit)
 }
 
 // The field that holds a number from -half to below `half`, in two's complement.
@@ -63,7 +61,7 @@ pub fn signed_field(number: i32, half: u16) -> Option<u16>
     ensures is { result ≡ signed_in half number }
     ensures within { IfSome result (λ x. x < 2 * half) }
 {
-    let h = half as i32;
+    let h = i32::from(half);
     if 0 <= number && number < h {
         Some(number as u16)
     } else if -h <= number && number < 0 {

@@ -4,5 +4,9 @@
 pub mod arithmetic;
 pub mod bytes;
 mod fields;
+mod full;
+mod half;
+mod register;
 
 pub use fields::{join, low, middle, signed, signed_field, unsigned_field};
+pub use register::Register;

@@ -1,12 +1,12 @@
-use Rattle.std.proofs.Common.{arith}
-use Rattle.bays.proofs.Lists.{vacant_none, vacant_some, vacant_all}
+use Rattle.std.proofs.Common.{◌∙◌, rules}
+use Rattle.std.proofs.lemmas.Iterator.{YieldsList-from_slice}
+use Rattle.std.proofs.lemmas.Iterator.Search.{position_from_yields_List}
+use Rattle.std.specs.Option.{is_none}
+use borrow.Author.Tests.{tests}
+use Rattle.bays.proofs.Lists.{place_is}
 use Rattle.bays.proofs.grants.first_vacant.Goals as goal
 
-pub returns-in-None : goal.returns-in-None
-returns-in-None c = let e = vacant_none c.args.grants.now c.loop-i.i (omega arith) c.in-None.is in omega arith
-
-pub loop-i-preserved : goal.loop-i-preserved
-loop-i-preserved c = let e = vacant_some c.args.grants.now c.loop-i.i _ (omega arith) c.in-Some.is in omega arith
-
 pub returns : goal.returns
-returns c = let e = vacant_all c.args.grants.now c.loop-i.i (omega arith) in omega arith
+returns c =
+    position_from_yields_List is_none _ _ _ c.position.ensures.ran (YieldsList-from_slice c.args.grants.now cc) (λ x b q k. search (rules, tests))
+    ∙ place_is c.args.grants.now

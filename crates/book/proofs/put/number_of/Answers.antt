@@ -1,12 +1,9 @@
-use Rattle.std.proofs.Common.{arith}
-use Rattle.book.proofs.Slots.{number_more, number_all}
+use Rattle.std.proofs.Common.{◌∙◌}
+use Rattle.book.proofs.Slots.{number_is}
 use Rattle.book.proofs.put.number_of.Goals as goal
 
-pub returns-then-rank_of : goal.returns-then-rank_of
-returns-then-rank_of c = record { is = grind (arith, number_more); within = omega arith }
+pub returns-in_err-place-clause-is : goal.returns-in_err-place-clause-is
+returns-in_err-place-clause-is c = let e = c.from_residual.ensures in rw e (c.in_err-place.ensures.is ∙ number_is c.args.name c.args.table.now)
 
-pub loop-entry-preserved : goal.loop-entry-preserved
-loop-entry-preserved c = (grind (arith, number_more), omega arith)
-
-pub returns : goal.returns
-returns c = record { is = grind (arith, number_all); within = tt }
+pub returns-clause-is : goal.returns-clause-is
+returns-clause-is c = c.in_ok-place.ensures.is ∙ number_is c.args.name c.args.table.now

@@ -1,5 +1,5 @@
-use Rattle.std.proofs.Common.{◌≡◌, ℕ, ◌+◌, ◌%◌, List, get_or, drop, set, sym, ◌∙◌}
-use Rattle.std.proofs.lemmas.List.{at_drop_more, at_drop_all}
+use Rattle.std.proofs.Common.{◌≡◌, ℕ, ◌+◌, ◌%◌, List, get_or, drop, set}
+use Rattle.std.proofs.lemmas.List.{at_drop_more}
 use Rattle.store.specs.Bulk.{written}
 use Rattle.store.proofs.bulk.write_all.Goals as goal
 
@@ -12,6 +12,3 @@ loop-byte-preserved g c =
     let w = c.write.ensures in
     let i = c.loop-byte.invariant in
     cc
-
-pub returns : goal.returns
-returns g c = let e = at_drop_all (written (g.S.Store.bytes c.loop-byte.store) c.loop-byte.to) c.args.bytes.now c.loop-byte.byte-index c.loop-byte-test.false in sym e ∙ c.loop-byte.invariant

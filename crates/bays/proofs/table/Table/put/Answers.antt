@@ -1,9 +1,10 @@
-use Rattle.std.proofs.Common.{inl, inr, arith}
+use Rattle.std.proofs.Common.{arith}
+use Rattle.std.proofs.lemmas.Bool.Decides.{nat_tests}
 use Rattle.bays.proofs.Lists.{put_in, put_out}
 use Rattle.bays.proofs.table.Table.put.Goals as goal
 
-pub returns-then-number-le8 : goal.returns-then-number-le8
-returns-then-number-le8 c = put_in c.args.self.now.bays c.args.number c.args.kept (omega arith)
+pub returns-then-contains : goal.returns-then-contains
+returns-then-contains c = rw c.from.ensures (put_in c.args.self.now.bays c.args.number c.args.kept (grind (arith, nat_tests)))
 
-pub returns-else-number-ge1 : goal.returns-else-number-ge1
-returns-else-number-ge1 c = put_out c.args.self.now.bays c.args.number c.args.kept c.args.self.now.eight (elim c.else-number-ge1.either [ inl h ↦ inr h.1 | inr h ↦ inl h ])
+pub returns-else-contains : goal.returns-else-contains
+returns-else-contains c = put_out c.args.self.now.bays c.args.number c.args.kept c.args.self.now.eight (grind (arith, nat_tests))

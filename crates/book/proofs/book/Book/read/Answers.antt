@@ -2,4 +2,4 @@ use Rattle.book.proofs.Keeping.{read_sound}
 use Rattle.book.proofs.book.Book.read.Goals as goal
 
 pub invariant_of-self : goal.invariant_of-self
-invariant_of-self c = record { sound = read_sound c.args.text.now c.in-Ok.t c.in-Ok.ensures }
+invariant_of-self c = record { sound = read_sound c.args.text.now c.in_ok-self.field-0 c.in_ok-self.ensures }

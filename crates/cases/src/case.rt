@@ -1,0 +1,64 @@
+use crate::hex::{hex_bytes, hex_half};
+use crate::image::put_parts;
+use crate::unread::Unread;
+use crate::values::{bay, half, registers, signed};
+use access::Bay;
+use code::{Format, Name};
+use machine::Registers;
+use std::alloc::Global;
+use store::Owned;
+
+// A turn to run: its label, registers, bay and budget, and the bytes before it, which are in the store too.
+#[derive(Drop)]
+pub struct Run<'a> {
+    pub label: &'a [u8],
+    pub registers: Registers,
+    pub bay: Bay,
+    pub budget: u16,
+    pub before: Vec<u8>,
+    pub store: Owned,
+}
+
+// What a line of the table asks.
+#[derive(Drop)]
+pub enum Case<'a> {
+    Run(Run<'a>),
+    Book(Vec<u8>),
+    Reading(u16),
+    Put(Name, Format, i32, i32),
+}
+
+fn read_run<'a>(alloc: Global, words: &[&'a [u8]]) -> Result<Run<'a>, Unread> {
+    let [label, values @ .., grants, bytes, budget] = words else {
+        return Err(Unread::NoCase);
+    };
+    let mut before = vec![in alloc; 0u8; 65536]?;
+    put_parts(&mut before, bytes)?;
+    let store = Owned::new(before.clone()?);
+    Ok(Run {
+        label,
+        registers: registers(values)?,
+        bay: bay(grants)?,
+        budget: half(budget)?,
+        before,
+        store,
+    })
+}
+
+impl<'a> Case<'a> {
+    pub fn read(alloc: Global, line: &'a [u8]) -> Result<Case<'a>, Unread> {
+        let words: Vec<&'a [u8]> = line.split(|b| *b == b' ').collect(alloc)?;
+        match words.as_slice() {
+            [b"run", words @ ..] => Ok(Case::Run(read_run(alloc, words)?)),
+            [b"book", text, ..] => Ok(Case::Book(hex_bytes(alloc, text)?)),
+            [b"reading", word, ..] => Ok(Case::Reading(hex_half(word)?)),
+            [b"put", name, format, m, d, ..] => Ok(Case::Put(
+                Name::try_from(*name).map_err(|_| Unread::NoCase)?,
+                Format::try_from(*format).map_err(|_| Unread::NoCase)?,
+                signed(m)?,
+                signed(d)?,
+            )),
+            _ => Err(Unread::NoCase),
+        }
+    }
+}

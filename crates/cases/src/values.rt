@@ -1,0 +1,85 @@
+ghost use Rattle.std.specs.Prelude.{◌≤◌, IfOk};
+
+use crate::unread::Unread;
+use access::{Bay, Grant, Kind};
+use machine::Registers;
+use text::decimal;
+
+fn number(digits: &[u8], high: u32) -> Result<u32, Unread>
+    ensures { IfOk result (λ n. n ≤ high) }
+{
+    decimal(digits, 0, high).ok_or(Unread::NoCase)
+}
+
+pub fn half(word: &[u8]) -> Result<u16, Unread> {
+    Ok(number(word, 65535)? as u16)
+}
+
+fn full(word: &[u8]) -> Result<u32, Unread> {
+    number(word, u32::MAX)
+}
+
+fn flag(word: &[u8]) -> Result<bool, Unread> {
+    Ok(number(word, 1)? == 1)
+}
+
+pub fn signed(word: &[u8]) -> Result<i32, Unread> {
+    match word {
+        [b'-', digits @ ..] => Ok((-i64::from(number(digits, 2_147_483_648)?)) as i32),
+        _ => Ok(number(word, 2_147_483_647)? as i32),
+    }
+}
+
+// A, B, X, Y, Z, S, L, and the markers.
+pub fn registers(words: &[&[u8]]) -> Result<Registers, Unread> {
+    let [a, b, x, y, z, s, l, fm, n, zr, of, ca] = words else {
+        return Err(Unread::NoCase);
+    };
+    Ok(Registers {
+        a: full(a)?,
+        b: full(b)?,
+        x: half(x)?,
+        y: half(y)?,
+        z: half(z)?,
+        s: half(s)?,
+        l: half(l)?,
+        fm: flag(fm)?,
+        n: flag(n)?,
+        zr: flag(zr)?,
+        of: flag(of)?,
+        ca: flag(ca)?,
+    })
+}
+
+fn kind(word: &[u8]) -> Result<Kind, Unread> {
+    match word {
+        b"r" => Ok(Kind::Read),
+        b"w" => Ok(Kind::Write),
+        _ => Err(Unread::NoCase),
+    }
+}
+
+// A kind, and the first and the last byte, parted by colons.
+fn grant(word: &[u8]) -> Result<Grant, Unread> {
+    let mut parts = word.split(|b| *b == b':');
+    match (parts.next(), parts.next(), parts.next(), parts.next()) {
+        (Some(word), Some(first), Some(last), None) => Ok(Grant {
+            kind: kind(word)?,
+            first: half(first)?,
+            last: half(last)?,
+        }),
+        _ => Err(Unread::NoCase),
+    }
+}
+
+// Six grants at most, parted by commas, or a hyphen where there is none.
+pub fn bay(word: &[u8]) -> Result<Bay, Unread> {
+    let mut grants = [None; 6];
+    if word != b"-".as_slice() {
+        let mut places = grants.iter_mut();
+        for part in word.split(|b| *b == b',') {
+            *places.next().ok_or(Unread::NoCase)? = Some(grant(part)?);
+        }
+    }
+    Ok(Bay { grants })
+}

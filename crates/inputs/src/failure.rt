@@ -1,0 +1,94 @@
+ghost use Rattle.inputs.specs.Faults.{IsAbout, IsOfFile};
+
+use std::alloc::{AllocError, Global};
+use std::io;
+use store::Unmade;
+use thiserror::Error;
+
+// What is wrong with a file.
+#[derive(Debug, Drop, Error)]
+pub enum Fault {
+    #[error("{0}")]
+    System(io::Error),
+    #[error("{0}")]
+    Book(book::Refused),
+    #[error("the image is refused with {}: it has {bytes} bytes in place of 65536", .unmade.number())]
+    Image { unmade: Unmade, bytes: usize },
+    #[error("{0}")]
+    Job(job::Refused),
+    #[error("{0}")]
+    Listing(listing::Refused),
+    // No whole number of records of that size.
+    #[error("{bytes} bytes are no whole number of records of {size} bytes")]
+    Records { bytes: usize, size: usize },
+    // An output file that is there already, by what the program calls it.
+    #[error("{0} exists already, and is not overwritten")]
+    Exists(&'static str),
+}
+
+// Why a program ends with status 1; printed, it is the line that says so.
+#[derive(Debug, Drop, Error)]
+pub enum Failure {
+    #[error("use: {0}")]
+    Usage(&'static str),
+    #[error("{0}: {1}")]
+    File(String, Fault),
+    // A run that did not halt, in the program's words.
+    #[error("{0}")]
+    Unhalted(&'static str),
+    #[error("{0}")]
+    System(io::Error),
+    #[error("{0}")]
+    Memory(AllocError),
+}
+
+impl Failure {
+    // A fault of the file of that name.
+    pub fn of_file(heap: Global, name: &str, fault: Fault) -> Failure
+        ensures { IsOfFile name.now fault result }
+    {
+        match String::from_str(heap, name) {
+            Ok(name) => Failure::File(name, fault),
+            Err(e) => Failure::Memory(e),
+        }
+    }
+
+    // What the system said, as a fault of the file of that name.
+    pub fn about(self, heap: Global, name: &str) -> Failure
+        ensures { IsAbout name.now self result }
+    {
+        match self {
+            Failure::System(e) => Failure::of_file(heap, name, Fault::System(e)),
+            other => other,
+        }
+    }
+}
+
+impl From<AllocError> for Failure {
+    fn from(e: AllocError) -> Failure {
+        Failure::Memory(e)
+    }
+}
+
+impl From<io::Error> for Failure {
+    fn from(e: io::Error) -> Failure {
+        Failure::System(e)
+    }
+}
+
+#[cfg(test)]
+mod tests {
+    use super::*;
+    use std::test::Fail;
+
+    #[test]
+    fn a_fault_is_told_with_its_file(rt: HostRuntime) -> Result<(), Fail> {
+        let fault = Fault::Records { bytes: 3, size: 2 };
+        let told = Failure::of_file(rt.alloc(), "a.rec", fault).to_string(rt.alloc())?;
+        assert_eq!(rt;
+            told.as_str(),
+            "a.rec: 3 bytes are no whole number of records of 2 bytes"
+        );
+        Ok(())
+    }
+}

@@ -1,0 +1,9 @@
+use Rattle.std.proofs.Common.{◌*ℤ◌, ◌∙◌}
+use Rattle.word.proofs.Exact.{kept, product_fits}
+use Rattle.word.proofs.arithmetic.exact_product.Goals as goal
+
+pub returns : goal.returns
+returns g c =
+    let x = c.signed.ensures in
+    let y = c.signed-2.ensures in
+    kept (◌*ℤ◌) _ _ x.within y.within (product_fits _ _ x.within y.within) ∙ (λ i. x.is i *ℤ y.is i)
