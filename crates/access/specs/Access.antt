@@ -1,5 +1,6 @@
 -- Which bytes a step may reach, and how items of one, two and four bytes are read and claimed.
-use Rattle.std.specs.Prelude.{ℕ, zero, suc, ◌+◌, ◌-◌, ◌%◌, Bool, true, false, cond, ◌&&◌, ◌||◌, List, [], ◌∷◌, Some, None, Ok, Err, Option, Result, nat_le, slice_index}
+use Rattle.std.specs.Prelude.{ℕ, zero, suc, ◌+◌, ◌-◌, ◌%◌, Bool, true, false, cond, ◌&&◌, List, Some, None, Ok, Err, Option, Result, nat_le, slice_index}
+use Rattle.std.specs.List.{list_any}
 use Rattle.word.specs.Bytes as bytes
 use Rattle.access.specs.declared.bay.Bay.{Bay}
 use Rattle.access.specs.declared.bay.Grant.{Grant}
@@ -31,8 +32,7 @@ covers None w at = false
 covers (Some g) w at = (nat_le g.first at && nat_le at g.last) && permits g.kind w
 
 abbrev pub granted : List (Option Grant) → Access → ℕ → Bool
-granted [] w at = false
-granted (g ∷ gs) w at = covers g w at || granted gs w at
+granted gs w at = list_any (λ g. covers g w at) gs
 
 -- some grant of the bay has the byte, and is of a kind that lets this be done to it
 abbrev pub allows : Bay → Access → ℕ → Bool

@@ -77,7 +77,7 @@ impl Bay {
     pub fn reaches(&self, access: Access, address: u16, length: usize) -> bool
         ensures { result ≡ within self.now access address length }
     {
-        let first = address as usize;
+        let first = usize::from(address);
         if length > 65536 - first {
             return false;
         }

@@ -1,5 +1,4 @@
 use book::Book;
-use code::Reading;
 use listing::{Listing, Placed};
 use std::io;
 
@@ -13,13 +12,8 @@ fn print_placed(rt: &HostRuntime, book: &Book, placed: Placed) -> io::Result<()>
     if !code {
         return println!(rt; "{address} {halfword:04X}");
     }
-    match book.reading(halfword) {
-        Reading::Undefined => println!(rt; "{address} {halfword:04X} undefined"),
-        Reading::NoPattern => println!(rt; "{address} {halfword:04X} no pattern"),
-        Reading::Defined { name, format, m, d } => {
-            println!(rt; "{address} {halfword:04X} {name} {format} {m} {d}")
-        }
-    }
+    let reading = book.reading(halfword);
+    println!(rt; "{address} {halfword:04X} {reading}")
 }
 
 // Prints what a listing places, up to its end or its first fault.

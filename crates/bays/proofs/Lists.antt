@@ -1,18 +1,16 @@
 -- The first vacant place, and the bay of a number.
-use Rattle.std.proofs.Common.{◌≡◌, ℕ, zero, suc, ◌+◌, ◌-◌, ◌<◌, ◌≤◌, cond, ◌⊎◌, List, ◌∷◌, length, set, Some, None, Err, Option, refl, sym, ap, inl, inr, arith}
+use Rattle.std.proofs.Common.{◌≡◌, ℕ, zero, suc, ◌+◌, ◌-◌, ◌<◌, ◌≤◌, cond, ◌⊎◌, List, ◌∷◌, length, set, Some, None, Option, refl, sym, ap, inl, inr, arith}
 use lib.Seq.{set-get_or}
 use Rattle.std.proofs.lemmas.List.{get_or_past, set_past}
 use Rattle.std.proofs.lemmas.List.Recursion.{is_position_or_len}
 use Rattle.std.proofs.lemmas.Option.{gets, slice_get-get_or, slice_get_past}
 use Rattle.std.proofs.lemmas.Bool.Decides.{nat_tests}
 use Rattle.std.specs.List.{position, position_or_len, slice_get}
-use Rattle.std.specs.Option.{is_none}
+use Rattle.std.specs.Option.{is_none, unwrap_or}
 use Rattle.access.specs.declared.bay.Grant.{Grant}
-use Rattle.bays.specs.Bays.{bay_at, entered, free, numbered, put_bay}
+use Rattle.bays.specs.Bays.{bay_at, free, numbered, put_bay}
 use Rattle.bays.specs.Grants.{place, vacant}
 use Rattle.bays.specs.declared.record.BayRecord.{BayRecord}
-use Rattle.bays.specs.declared.refusal.Refusal.TheVariants.{OtherStage}
-use Rattle.bays.specs.declared.stage.Stage.{Stage}
 
 vacant_is : (gs : List (Option Grant)) → vacant gs ≡ position_or_len is_none gs
 vacant_is gs = is_position_or_len vacant is_none refl next gs
@@ -30,13 +28,11 @@ unfolding bay_at
 found l zero e h = absurd (omega arith)
 found l (suc k) e h = grind (arith, nat_tests, gets, slice_get-get_or l k free, slice_get_past l k)
 
-bay_out : (l : List BayRecord) (n : ℕ) → length l ≡ 8 → numbered l n ≡ None → bay_at l n ≡ free
+-- the bay of a number, or a free one where no bay has it
+pub bay_or_free : (l : List BayRecord) (n : ℕ) → length l ≡ 8 → unwrap_or (numbered l n) free ≡ bay_at l n
 unfolding bay_at
-bay_out l zero e h = refl
-bay_out l (suc k) e h = get_or_past l k free (grind (arith, nat_tests))
-
-pub none_entered : (s : Stage) (l : List BayRecord) (n : ℕ) → length l ≡ 8 → numbered l n ≡ None → Err OtherStage ≡ entered s l n
-none_entered s l n e h = rw (bay_out l n e h)
+bay_or_free l zero e = refl
+bay_or_free l (suc k) e = grind (arith, nat_tests, get_or_past l k free)
 
 pub put_in : (l : List BayRecord) (n : ℕ) (b : BayRecord) → 1 ≤ n → set l (n - 1) b ≡ put_bay l n b
 unfolding put_bay

@@ -1,4 +1,4 @@
-ghost use Rattle.bays.specs.Bays.{clash, free, numbered, put_bay};
+ghost use Rattle.bays.specs.Bays.{bay_at, clash, free, numbered, put_bay};
 ghost use Rattle.std.specs.Prelude.{◌≡◌, length, replicate};
 
 use crate::grants::clash_with_any;
@@ -32,11 +32,19 @@ impl Table {
         self.bays.get(index).copied()
     }
 
+    // The same, or a free bay where no bay has the number.
+    #[tactic(auto, using(crate::proofs::Lists::bay_or_free))]
+    pub fn bay(&self, number: u8) -> BayRecord
+        ensures { result ≡ bay_at self.now.bays number }
+    {
+        self.get(number).unwrap_or(BayRecord::free())
+    }
+
     // The bay of a number, at the stage that a call wants.
     pub fn entered(&self, number: u8, wanted: Stage) -> Result<BayRecord, Refusal>
         ensures { result ≡ Rattle.bays.specs.Bays.entered wanted self.now.bays number }
     {
-        self.get(number)
+        Some(self.bay(number))
             .filter(|record| record.stage == Some(wanted))
             .ok_or(Refusal::OtherStage)
     }

@@ -3,8 +3,8 @@ ghost use Rattle.book.specs.Sound.{sound};
 
 use crate::tables::Tables;
 
-// A code book: which names have which numbers, and how the formats are told apart. It has no model: with its tables for one, clauses
-// would name the book where they name the tables, and say no less.
+// A code book: which names have which numbers, and how the formats are told apart. It has no model: seen as its
+// tables alone it would hide from proofs that they are sound.
 #[derive(Clone, Copy)]
 pub struct Book {
     pub tables: Tables,

@@ -4,7 +4,7 @@ ghost use Rattle.book.specs.Columns.{three, texts};
 use text::cut;
 
 // The three fields of a line.
-#[derive(Clone, Copy)]
+#[derive(Clone, Copy, Debug, PartialEq, Eq)]
 pub struct Fields<'a> {
     pub letter: &'a [u8],
     pub name: &'a [u8],

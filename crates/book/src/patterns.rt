@@ -3,7 +3,8 @@ ghost use Rattle.book.specs.Patterns.{place_of, length_at, pattern_of, begins, m
 
 use code::Format;
 
-// The place of an A format's pattern among the five. Below, a pattern goes by its place, since a book keeps the five in an array.
+// The place of an A format's pattern among the five. Below, a pattern goes by its place and not by its format: `clash` goes through the
+// five places of a book, and would have to turn each into a format first.
 pub fn pattern_place(format: Format) -> Option<usize>
     ensures is { result ≡ place_of format }
     ensures within { IfSome result (λ i. i < 5) }
@@ -35,7 +36,7 @@ pub fn pattern(text: &[u8], len: u8) -> Option<u8>
     requires { len ≤ 4 }
     ensures { result ≡ pattern_of len text.now }
 {
-    if text.len() != len as usize {
+    if text.len() != usize::from(len) {
         return None;
     }
     let mut n = 0;

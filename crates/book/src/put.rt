@@ -1,6 +1,6 @@
-ghost use Rattle.std.specs.Prelude.{◌≡◌, ◌<◌, ◌≤◌, length, IfSome};
+ghost use Rattle.std.specs.Prelude.{◌≡◌, ◌+◌, ◌*◌, ◌^◌, ◌<◌, ◌≤◌, length, IfSome};
 ghost use Rattle.book.specs.Wholes.{word_of};
-ghost use Rattle.book.specs.Put.{number_in, v_limit, m_limit, d_limit, word_a, pattern_at, made_of, put, answered};
+ghost use Rattle.book.specs.Put.{number_in, v_limit, m_limit, d_limit, word_a, pattern_at, made_of, put, answered, below};
 ghost use Rattle.book.specs.Laws.{Reads};
 
 use crate::book::Book;
@@ -57,7 +57,18 @@ fn lay_a(format: Format, number: u16, pattern: u16, m: u16, d: u16) -> u16
     }
 }
 
-// Name, format, M and D stay apart, as a reading keeps them together: M and D are any numbers here, and only those that fit make a word.
+// A field below the number, with no M.
+fn lay_below(number: u16, count: u16, m: i32, field: Option<u16>) -> Result<u16, Unput>
+    requires { (count < 16) × ((number * 2 ^ count + 2 ^ count ≤ 65536) × IfSome field (λ x. x < 2 ^ count)) }
+    ensures { answered result ≡ below (number * 2 ^ count) m field }
+{
+    match field {
+        Some(field) if m == 0 => Ok(join(number, count, field)),
+        _ => Err(Unput::Unfit),
+    }
+}
+
+// Name, format, M and D stay apart, though a reading keeps them together: M and D are any numbers here, and only those that fit make a word.
 impl Book {
     fn pattern_of(&self, format: Format) -> Option<u8>
         ensures { result ≡ pattern_at self.now.tables format }
@@ -73,17 +84,14 @@ impl Book {
         let pattern = self.pattern_of(format).ok_or(Unput::Unavailable)?;
         let m = unsigned_field(m, m_values(format)).ok_or(Unput::Unfit)?;
         let d = unsigned_field(d, d_values(format)).ok_or(Unput::Unfit)?;
-        Ok(lay_a(format, number, pattern as u16, m, d))
+        Ok(lay_a(format, number, u16::from(pattern), m, d))
     }
 
     fn put_b(&self, name: Name, m: i32, d: i32) -> Result<u16, Unput>
         ensures { answered result ≡ Rattle.book.specs.Put.put_b self.now.tables name m d }
     {
         let number = number_of(&self.tables.b, name).ok_or(Unput::Unavailable)?;
-        match signed_field(d, 512) {
-            Some(d) if m == 0 => Ok(join(number, 10, d)),
-            _ => Err(Unput::Unfit),
-        }
+        lay_below(number, 10, m, signed_field(d, 512))
     }
 
     fn put_l(&self, name: Name, m: i32, d: i32) -> Result<u16, Unput>
@@ -97,10 +105,7 @@ impl Book {
             };
         }
         if let Name::Bitl = name {
-            return match unsigned_field(d, 256) {
-                Some(d) if m == 0 => Ok(join(22, 8, d)),
-                _ => Err(Unput::Unfit),
-            };
+            return lay_below(22, 8, m, unsigned_field(d, 256));
         }
         let number = number_of(&self.tables.l, name).ok_or(Unput::Unavailable)?;
         let field = if is_branch(name) {
@@ -108,10 +113,7 @@ impl Book {
         } else {
             unsigned_field(d, 256)
         };
-        match field {
-            Some(d) if m == 0 => Ok(join(number, 8, d)),
-            _ => Err(Unput::Unfit),
-        }
+        lay_below(number, 8, m, field)
     }
 
     fn put(&self, name: Name, format: Format, m: i32, d: i32) -> Result<u16, Unput>

@@ -6,7 +6,7 @@ use crate::book::Book;
 use crate::fields::fields_by_tab;
 use crate::patterns::complete;
 use crate::refused::{Fault, Refused};
-use crate::tables::Tables;
+use crate::tables::{EMPTY, Tables};
 use text::{Line, Lines};
 
 // Takes up what a line says.
@@ -31,12 +31,7 @@ fn read_text(text: &[u8]) -> Result<Tables, Refused>
     ensures { spoken result ≡ read_rule text.now }
 {
     let mut lines = Lines::new(text);
-    let mut tables = Tables {
-        a: [None; 64],
-        l: [None; 64],
-        b: [None; 4],
-        patterns: [None; 5],
-    };
+    let mut tables = EMPTY;
     'lines: while let Some(line) = lines.next_line()? {
         take_line(&mut tables, line)?;
     }
@@ -57,10 +52,8 @@ impl Book {
     {
         Book {
             tables: Tables {
-                a: [None; 64],
-                l: [None; 64],
-                b: [None; 4],
                 patterns: [Some(0b10), Some(0), Some(0b1110), Some(0b110), Some(0b1111)],
+                ..EMPTY
             },
         }
     }

@@ -12,7 +12,7 @@ use word::{low, middle, signed};
 fn begins(pattern: Option<u8>, bits: u16) -> bool
     ensures { result ≡ fits pattern bits }
 {
-    pattern.is_some_and(|v| v as u16 == bits)
+    pattern.is_some_and(|v| u16::from(v) == bits)
 }
 
 // The format whose pattern begins the four bits. A test for each, since each pattern has its own number of bits.
@@ -64,13 +64,13 @@ fn read_a(tables: &Tables, word: u16) -> Reading
     let Some(format) = format_at(&tables.patterns, middle(word, 6, 4)) else {
         return Reading::NoPattern;
     };
-    match tables.a[(word >> 10) as usize] {
+    match tables.a[usize::from(word >> 10)] {
         None => Reading::Undefined,
         Some(name) => Reading::Defined {
             name,
             format,
             m: m_field(format, word),
-            d: d_field(format, word) as i16,
+            d: i16::from(d_field(format, word)),
         },
     }
 }
@@ -100,7 +100,7 @@ fn read_l(tables: &Tables, word: u16) -> Reading
         return plain(Name::Bitl, Format::L, d as i16);
     }
     // Bound first: the check covers no match with a guard on an array's element.
-    let entry = tables.l[number as usize];
+    let entry = tables.l[usize::from(number)];
     match entry {
         None => Reading::Undefined,
         Some(name) if is_branch(name) => plain(name, Format::L, signed(d, 128)),
@@ -113,7 +113,7 @@ fn read_word(tables: &Tables, word: u16) -> Reading
 {
     match word {
         0..=0x03ff => Reading::Undefined,
-        0x0400..=0x0fff => match tables.b[(word >> 10) as usize] {
+        0x0400..=0x0fff => match tables.b[usize::from(word >> 10)] {
             None => Reading::Undefined,
             Some(name) => plain(name, Format::B, signed(low(word, 10), 512)),
         },

@@ -25,7 +25,7 @@ pub fn place_of(table: &[Option<Name>], name: Name) -> Option<usize>
     table.iter().position(|entry| is_entry(entry, name))
 }
 
-// Enters the name at its number, if both are free.
+// Enters the name at its number, if both are free. A number that was read becomes a place by `as`: the library has no `From` for the two.
 pub fn enter(table: &mut [Option<Name>], name: Name, number: u32) -> Result<(), Fault>
     requires { number < length table.old }
     ensures answer { result ≡ (if taken table.old name number then Err Repeated else Ok tt) }

@@ -1,7 +1,7 @@
 use crate::case::{Case, Run};
 use crate::changes::Changes;
 use book::Book;
-use code::{Format, Name, Reading};
+use code::{Format, Name};
 use std::{io, str};
 use turns::turn;
 
@@ -39,13 +39,8 @@ fn answer_book(rt: &HostRuntime, text: &[u8]) -> io::Result<()> {
 }
 
 fn answer_reading(rt: &HostRuntime, book: &Book, word: u16) -> io::Result<()> {
-    match book.reading(word) {
-        Reading::Undefined => println!(rt; "reading undefined"),
-        Reading::NoPattern => println!(rt; "reading no pattern"),
-        Reading::Defined { name, format, m, d } => {
-            println!(rt; "reading {name} {format} {m} {d}")
-        }
-    }
+    let reading = book.reading(word);
+    println!(rt; "reading {reading}")
 }
 
 fn answer_put(

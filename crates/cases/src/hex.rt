@@ -1,33 +1,25 @@
-ghost use Rattle.std.specs.Prelude.{◌<◌, IfOk};
-
 use crate::unread::Unread;
 use std::alloc::Global;
-use text::hex_digit;
+use text::hex_word;
 
-// In upper case alone.
-fn digit(byte: u8) -> Result<u8, Unread>
-    ensures { IfOk result (λ d. d < 16) }
-{
-    if byte.is_ascii_lowercase() {
-        return Err(Unread::NoCase);
-    }
-    hex_digit(byte).ok_or(Unread::NoCase)
+// Digits are in upper case alone.
+fn is_upper(digits: &[u8]) -> bool {
+    !digits.iter().any(u8::is_ascii_lowercase)
 }
 
 // Two hexadecimal digits.
 pub fn hex_byte(pair: &[u8]) -> Result<u8, Unread> {
     match pair {
-        [high, low] => Ok(digit(*high)? * 16 + digit(*low)?),
+        [high, low] if is_upper(pair) => text::hex_byte(*high, *low).ok_or(Unread::NoCase),
         _ => Err(Unread::NoCase),
     }
 }
 
 // Four hexadecimal digits.
 pub fn hex_half(word: &[u8]) -> Result<u16, Unread> {
-    match word {
-        [a, b, c, d] => Ok(u16::from_be_bytes([hex_byte(&[*a, *b])?, hex_byte(&[*c, *d])?])),
-        _ => Err(Unread::NoCase),
-    }
+    hex_word(word)
+        .filter(|_| is_upper(word))
+        .ok_or(Unread::NoCase)
 }
 
 // Bytes of two digits each, or a hyphen where there is none.

@@ -19,10 +19,10 @@ pub fn put_parts(image: &mut [u8], word: &[u8]) -> Result<(), Unread> {
     if word.split(|b| *b == b',').nth(65535).is_some() {
         return Err(Unread::NoCase);
     }
-    if word != b"-".as_slice() {
-        for part in word.split(|b| *b == b',') {
-            put_part(image, part)?;
-        }
+    match word {
+        b"-" => Ok(()),
+        _ => word
+            .split(|b| *b == b',')
+            .try_for_each(|part| put_part(image, part)),
     }
-    Ok(())
 }

@@ -17,12 +17,14 @@ use std::{env, fs};
 use text::{Line, Lines, Unended};
 use unread::Unread;
 
+// What can go wrong here is told in the text that stands beside it, and nobody but `main` reads it: an enum would say each twice.
 fn read_cases(rt: &HostRuntime) -> anyhow::Result<Vec<u8>> {
     let mut cases = Vec::new(rt.alloc());
     let _count = rt.stdin().read_to_end(&mut cases)?;
     Ok(cases)
 }
 
+// Not the reader of `inputs`: of a book that is refused this program says no line and no number.
 fn read_book(rt: &HostRuntime) -> anyhow::Result<Book> {
     let name = env::args(rt)?.nth(1).context("use: cases BOOK < CASES")?;
     let text = fs::read(rt, name.as_str())?;

@@ -1,3 +1,6 @@
+ghost use Rattle.std.specs.Prelude.{◌≡◌};
+ghost use Rattle.cases.specs.declared.unread.Unread.TheVariants.{OutOfMemory};
+
 use std::alloc::AllocError;
 
 // Why a line gives no case to answer.
@@ -8,6 +11,8 @@ pub enum Unread {
 }
 
 impl From<AllocError> for Unread {
+    ghost from_gives = { λ e unread. unread ≡ OutOfMemory e };
+
     fn from(e: AllocError) -> Unread {
         Unread::OutOfMemory(e)
     }

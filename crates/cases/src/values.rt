@@ -23,6 +23,7 @@ fn flag(word: &[u8]) -> Result<bool, Unread> {
     Ok(number(word, 1)? == 1)
 }
 
+// Not a listing's `integer`, whose ends are a halfword's: the least number here has no positive one to be taken from.
 pub fn signed(word: &[u8]) -> Result<i32, Unread> {
     match word {
         [b'-', digits @ ..] => Ok((-i64::from(number(digits, 2_147_483_648)?)) as i32),
@@ -75,10 +76,13 @@ fn grant(word: &[u8]) -> Result<Grant, Unread> {
 // Six grants at most, parted by commas, or a hyphen where there is none.
 pub fn bay(word: &[u8]) -> Result<Bay, Unread> {
     let mut grants = [None; 6];
-    if word != b"-".as_slice() {
-        let mut places = grants.iter_mut();
-        for part in word.split(|b| *b == b',') {
-            *places.next().ok_or(Unread::NoCase)? = Some(grant(part)?);
+    let mut places = grants.iter_mut();
+    match word {
+        b"-" => {}
+        _ => {
+            for part in word.split(|b| *b == b',') {
+                *places.next().ok_or(Unread::NoCase)? = Some(grant(part)?);
+            }
         }
     }
     Ok(Bay { grants })

@@ -1,3 +1,4 @@
 pub mod Spelling
 pub mod Names
 pub mod Formats
+pub mod Readings

@@ -10,7 +10,8 @@ use access::{Bay, Grant};
 use bays::{BayRecord, Refusal, Stage, first_vacant, wipe};
 use store::Store;
 
-// A refused call that has the handle itself gives it back.
+// A refused call that has the handle itself gives it back: by a match, since a closure for `map_err` would take the handle from the call
+// that is not refused.
 #[derive(Drop)]
 pub struct Refused<K: AtStage> {
     pub refusal: Refusal,

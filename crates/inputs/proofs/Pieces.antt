@@ -58,8 +58,3 @@ pieces_more size again all piece rest p s e l h =
     let t : take size all ≡ piece = ap (take size) e ∙ first_taken size piece rest k in
     let d : drop size all ≡ rest = ap (drop size) e ∙ first_dropped size piece rest k in
     rw (s, c, t, d) refl
-
-pub pieces_none : (size : ℕ) (all : List ℕ) → length all ≡ 0 → pieces size all ≡ []
-pieces_none size all e =
-    let c : chunk_count (length all) size ≡ 0 = omega arith in
-    rw c refl

@@ -1,4 +1,6 @@
+ghost use Rattle.std.specs.Prelude.{◌≡◌};
 ghost use Rattle.inputs.specs.Faults.{IsAbout, IsOfFile};
+ghost use Rattle.inputs.specs.declared.failure.Failure.TheVariants.{Memory, System};
 
 use std::alloc::{AllocError, Global};
 use std::io;
@@ -65,12 +67,16 @@ impl Failure {
 }
 
 impl From<AllocError> for Failure {
+    ghost from_gives = { λ e failure. failure ≡ Memory e };
+
     fn from(e: AllocError) -> Failure {
         Failure::Memory(e)
     }
 }
 
 impl From<io::Error> for Failure {
+    ghost from_gives = { λ e failure. failure ≡ System e };
+
     fn from(e: io::Error) -> Failure {
         Failure::System(e)
     }
@@ -89,6 +95,14 @@ mod tests {
             told.as_str(),
             "a.rec: 3 bytes are no whole number of records of 2 bytes"
         );
+        Ok(())
+    }
+
+    #[test]
+    fn what_the_system_says_is_told_with_its_file(rt: HostRuntime) -> Result<(), Fail> {
+        let said = Failure::System(io::Error::from(io::ErrorKind::NotFound));
+        let told = said.about(rt.alloc(), "a.rec").to_string(rt.alloc())?;
+        assert!(rt; told.as_str().starts_with("a.rec: "));
         Ok(())
     }
 }

@@ -1,3 +1,6 @@
+ghost use Rattle.std.specs.Prelude.{◌≡◌};
+ghost use Rattle.job.specs.declared.fault.Fault.TheVariants.{Unended};
+
 use crate::entry::Entry;
 use text::Unended;
 use thiserror::Error;
@@ -31,8 +34,8 @@ pub enum Fault {
     Denied(Entry),
 }
 
-// A refused job, with the number of the line; past the last line where something is missing. It has a type of its own, as a listing's and
-// a book's refusal have.
+// A refused job, with the number of the line; past the last line where something is missing. It has a type of its own, for
+// the reason that a listing's has (`listing::Refused`).
 #[derive(Clone, Copy, PartialEq, Eq, Debug, Error)]
 #[error("line {line}: {fault}")]
 pub struct Refused {
@@ -41,6 +44,8 @@ pub struct Refused {
 }
 
 impl From<Unended> for Refused {
+    ghost from_gives = { λ unended refused. refused ≡ record { fault = Unended; line = unended.line } };
+
     fn from(unended: Unended) -> Refused {
         Refused {
             fault: Fault::Unended,

@@ -7,7 +7,8 @@ use access::{Grant, Kind};
 use std::str;
 use text::decimal;
 
-// These are the readers of `cases` again, but for what they make of a field that is not there and for the error that they answer with.
+// `cases` has readers of its own: their words are there, as a slice's, and they have one error; here a field may be missing, and a fault
+// says which of three things is wrong.
 fn number(field: Option<&[u8]>, low: u32, high: u32) -> Result<u32, Fault>
     ensures { IfOk result (λ n. n ≤ high) }
 {

@@ -30,7 +30,7 @@ fn run_turns<S: Store>(book: &Book, job: &Job, store: &mut S) -> Ran
     // Turns are counted, and nothing is indexed.
     for _k in 0..job.turns.count {
         let turned = turn(book, &mut ran.registers, store, &job.bay, job.turns.budget);
-        ran.steps += turned.steps as u32;
+        ran.steps += u32::from(turned.steps);
         if turned.stop.is_some() {
             ran.stop = turned.stop;
             return ran;

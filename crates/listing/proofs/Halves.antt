@@ -1,11 +1,12 @@
 use Rattle.std.proofs.Common.{◌≡◌, ℕ, ◌-◌, ◌%◌, ◌≤◌, ◌≤ℤ◌, ℤ, pos, neg_ℤ, nat_abs, Some, None, Option, refl, ap, ◌∙◌, subst, arith, rules}
 use Rattle.std.specs.Int.{int_rem_euclid}
+use Rattle.std.specs.Prelude.{option_and_then}
 use Rattle.std.proofs.lemmas.Int.{int_rem_euclid_is}
 use Rattle.text.specs.Search.{Bytes}
 use Rattle.text.specs.Numbers.{number_of}
-use Rattle.listing.specs.Numbers.{then_for, by_sign, half_by_sign}
+use Rattle.listing.specs.Numbers.{by_sign, half_by_sign}
 
-plus : (q : Option ℕ) (z r : ℤ) → Some z ≡ then_for q (λ n. Some (pos n)) → z ≤ℤ pos 65535 → r ≡ int_rem_euclid z (pos 65536) → Some (nat_abs r) ≡ q
+plus : (q : Option ℕ) (z r : ℤ) → Some z ≡ option_and_then (λ n. Some (pos n)) q → z ≤ℤ pos 65535 → r ≡ int_rem_euclid z (pos 65536) → Some (nat_abs r) ≡ q
 plus None z r h b e = let y : ◌≡◌ {A = ℕ} 0 1 = cc in absurd (omega arith)
 plus (Some m) z r h b e =
     let i : z ≡ pos m = cc in
@@ -15,7 +16,7 @@ plus (Some m) z r h b e =
     let v : m % 65536 ≡ m = omega arith in
     ap (λ n. Some (nat_abs n)) (e ∙ g) ∙ ap (λ n. Some n) v
 
-minus : (q : Option ℕ) (z r : ℤ) → Some z ≡ then_for q (λ n. Some (neg_ℤ (pos n))) → neg_ℤ (pos 32768) ≤ℤ z → r ≡ int_rem_euclid z (pos 65536) → Some (nat_abs r) ≡ then_for q (λ n. Some ((65536 - n) % 65536))
+minus : (q : Option ℕ) (z r : ℤ) → Some z ≡ option_and_then (λ n. Some (neg_ℤ (pos n))) q → neg_ℤ (pos 32768) ≤ℤ z → r ≡ int_rem_euclid z (pos 65536) → Some (nat_abs r) ≡ option_and_then (λ n. Some ((65536 - n) % 65536)) q
 minus None z r h b e = let y : ◌≡◌ {A = ℕ} 0 1 = cc in absurd (omega arith)
 minus (Some m) z r h b e =
     let i : z ≡ neg_ℤ (pos m) = cc in

@@ -1,4 +1,5 @@
 use Rattle.std.proofs.Common.{◌≡◌, ℕ, ◌+◌, ◌/◌, ◌%◌, ◌<◌, ◌≤◌, Bool, true, false, cond, eqb, ltb, ◌≢◌, List, [], ◌∷◌, ◌++◌, length, get_or, set, Some, None, Ok, Err, Option, Result, sym, refl, ap, ◌∙◌, subst, arith}
+use Rattle.std.specs.Prelude.{option_and_then}
 use Rattle.std.proofs.lemmas.List.{length-set, get_or-set_same, get_or-set_other}
 use Rattle.std.proofs.lemmas.Bool.{cond_both, ltb-true, ltb-false, eqb-true}
 use Rattle.text.specs.Search.{Bytes, empty}
@@ -7,7 +8,7 @@ use Rattle.listing.specs.declared.fault.Fault.{Fault}
 use Rattle.listing.specs.declared.fault.Fault.TheVariants.{Unended, Below, Past}
 use Rattle.listing.specs.declared.placed.Placed.{Placed}
 use Rattle.text.specs.Numbers.{number_of}
-use Rattle.listing.specs.Numbers.{then_for, half_of, address_of}
+use Rattle.listing.specs.Numbers.{half_of, address_of}
 use Rattle.listing.specs.Words.{words, uncommented}
 use Rattle.listing.specs.Line.{Says, a_word, halfwords, Line, content_of, at_address, from_address, line_rule}
 use Rattle.listing.specs.Listing.{Read, fault_at, more, given, place_rule, half_go, halfs, content_go, line_go, gather, listing}
@@ -62,7 +63,7 @@ abbrev EvenLine : Line → Type 0
 EvenLine (Err f) = Unit {0}
 EvenLine (Ok o) = EvenEntry o
 
-number_even : (o : Option ℕ) → EvenAddress (then_for o (λ n. cond (eqb (n % 2) 0) (Some n) None))
+number_even : (o : Option ℕ) → EvenAddress (option_and_then (λ n. cond (eqb (n % 2) 0) (Some n) None) o)
 number_even None = tt
 number_even (Some n) = cond_both (eqb (n % 2) 0) (Some n) None EvenAddress (λ b. eqb-true (n % 2) 0 b) (λ _. tt)
 

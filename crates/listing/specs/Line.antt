@@ -3,6 +3,7 @@ use Rattle.std.specs.Prelude.{ℕ, cond, List, [], ◌∷◌, Some, None, Ok, Er
 use Rattle.std.specs.Str.{bytes_eq}
 use Rattle.code.specs.Formats.{format_of}
 use Rattle.code.specs.Names.{name_of}
+use Rattle.text.specs.Numbers.{hex_word}
 use Rattle.text.specs.Search.{Bytes}
 use Rattle.book.specs.declared.tables.Tables.{Tables}
 use Rattle.book.specs.declared.unput.Unput.TheVariants.{Unavailable, Unfit}
@@ -12,7 +13,7 @@ use Rattle.listing.specs.declared.fault.Fault.TheVariants.{Address, Words, Name,
 use Rattle.listing.specs.declared.entry.Content.{Content}
 use Rattle.listing.specs.declared.entry.Content.TheVariants.{Word, Halfwords}
 use Rattle.listing.specs.declared.entry.Entry.{Entry}
-use Rattle.listing.specs.Numbers.{signed_of, hex_word, address_of}
+use Rattle.listing.specs.Numbers.{signed_of, address_of}
 use Rattle.listing.specs.Words.{words, only, three}
 
 -- what a line places: a word, or the halfwords that words spell

@@ -1,13 +1,14 @@
 ghost use Rattle.std.specs.Prelude.{◌≡◌};
 ghost use Rattle.listing.specs.Words.{words, uncommented};
-ghost use Rattle.listing.specs.Line.{instruction, word_line, shown, content_of, entered, line_rule};
+ghost use Rattle.listing.specs.Line.{instruction, halfwords_line, word_line, shown, content_of, entered, line_rule};
 
 use crate::entry::{Content, Entry};
 use crate::fault::Fault;
-use crate::number::{address, hex_word, signed};
+use crate::number::{address, signed};
 use crate::tokens::{before_comment, next_word, one_word, three_words};
 use book::Book;
 use code::{Format, Name};
+use text::hex_word;
 
 // The word of an instruction under the book.
 fn instruction_word(book: &Book, name: &[u8], rest: &[u8]) -> Result<u16, Fault>
@@ -29,20 +30,23 @@ fn spelled_word(rest: &[u8]) -> Result<u16, Fault>
     hex_word(digits).ok_or(Fault::Number)
 }
 
+// The words that spell halfwords, one at least.
+fn halfwords(rest: &[u8]) -> Result<Content<'_>, Fault>
+    ensures { shown result ≡ halfwords_line (words rest.now) }
+{
+    next_word(rest).ok_or(Fault::Words)?;
+    Ok(Content::Halfwords(rest))
+}
+
 // What follows the address.
 fn content<'a>(book: &Book, kind: &[u8], rest: &'a [u8]) -> Result<Content<'a>, Fault>
     ensures { shown result ≡ content_of book.now.tables kind.now (words rest.now) }
 {
-    if kind == b"halfwords".as_slice() {
-        next_word(rest).ok_or(Fault::Words)?;
-        return Ok(Content::Halfwords(rest));
+    match kind {
+        b"halfwords" => halfwords(rest),
+        b"word" => Ok(Content::Word(spelled_word(rest)?)),
+        _ => Ok(Content::Word(instruction_word(book, kind, rest)?)),
     }
-    let word = if kind == b"word".as_slice() {
-        spelled_word(rest)?
-    } else {
-        instruction_word(book, kind, rest)?
-    };
-    Ok(Content::Word(word))
 }
 
 // What a line says, if it says anything.

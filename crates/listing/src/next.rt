@@ -48,6 +48,7 @@ impl<'a> Listing<'a> {
         ensures is { given (at_line self.new.line result) (todo book.now.tables self.new) ≡ todo book.now.tables self.old }
         ensures rises { Rises (at_line self.new.line result) self.old.end self.new.end }
     {
+        // A `loop`, since it ends in two ways, at a halfword of the line in hand or at one of the next line, and neither is a condition.
         'lines: loop {
             if let Some((word, rest)) = next_word(self.rest) {
                 self.rest = rest;
@@ -59,7 +60,7 @@ impl<'a> Listing<'a> {
                 return Ok(None);
             };
             if let Some(entry) = read_line(book, line.text)? {
-                let address = entry.address as u32;
+                let address = u32::from(entry.address);
                 if address < self.end {
                     return Err(Fault::Below);
                 }

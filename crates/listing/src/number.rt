@@ -1,7 +1,7 @@
 ghost use Rattle.std.specs.Prelude.{◌≡◌, ◌≤ℤ◌, neg_ℤ, pos, IfSome};
 ghost use Rattle.listing.specs.Numbers.{signed_of, half_of, address_of};
 
-use text::{decimal, hex_digit};
+use text::decimal;
 
 // A number from -least to 65,535, in base ten.
 fn integer(s: &[u8], least: u16) -> Option<i32>
@@ -26,18 +26,6 @@ pub fn half(s: &[u8]) -> Option<u16>
     ensures { result ≡ half_of s.now }
 {
     Some(integer(s, 32768)?.rem_euclid(65536) as u16)
-}
-
-// The word that just four hexadecimal digits spell.
-pub fn hex_word(s: &[u8]) -> Option<u16>
-    ensures { result ≡ Rattle.listing.specs.Numbers.hex_word s.now }
-{
-    let [a, b, c, d] = s else {
-        return None;
-    };
-    let high = hex_digit(*a)? * 16 + hex_digit(*b)?;
-    let low = hex_digit(*c)? * 16 + hex_digit(*d)?;
-    Some(u16::from_be_bytes([high, low]))
 }
 
 // An even number from 0 to 65,535.

@@ -1,5 +1,7 @@
 ghost use Rattle.std.specs.Prelude.{◌≡◌, ◌<◌};
+ghost use Rattle.std.specs.Option.{ok_or};
 ghost use Rattle.access.specs.Access.{Sight};
+ghost use Rattle.access.specs.declared.stop.Cause.TheVariants.{Undefined};
 ghost use Rattle.machine.specs.Act.{perform};
 ghost use Rattle.machine.specs.Bits.{altered, bit_done, controlled, ends_zero, mask, operation};
 
@@ -8,7 +10,7 @@ use crate::registers::Registers;
 use access::Cause;
 
 // What a bit instruction does to its bit of AL, the low half of A.
-#[derive(Clone, Copy)]
+#[derive(Clone, Copy, Debug, PartialEq, Eq)]
 pub enum Operation {
     Test,
     Toggle,
@@ -17,16 +19,20 @@ pub enum Operation {
     Clear,
 }
 
-fn operation_of(high: u8) -> Option<Operation>
-    ensures { result ≡ operation high }
-{
-    match high {
-        0 => Some(Operation::Test),
-        9 => Some(Operation::Toggle),
-        10 => Some(Operation::Place),
-        11 => Some(Operation::Set),
-        14 => Some(Operation::Clear),
-        _ => None,
+impl TryFrom<u8> for Operation {
+    type Error = Cause;
+
+    ghost try_from_gives = { λ high result. result ≡ ok_or (operation high) Undefined };
+
+    fn try_from(high: u8) -> Result<Operation, Cause> {
+        match high {
+            0 => Ok(Operation::Test),
+            9 => Ok(Operation::Toggle),
+            10 => Ok(Operation::Place),
+            11 => Ok(Operation::Set),
+            14 => Ok(Operation::Clear),
+            _ => Err(Cause::Undefined),
+        }
     }
 }
 
@@ -69,9 +75,9 @@ fn operate(operation: Operation, bit: u8, r: Registers) -> Registers
     requires { bit < 16 }
     ensures { result ≡ bit_done operation bit r }
 {
-    let al = (r.a % 65536) as u16;
+    let al = r.low_half();
     Registers {
-        a: r.a - r.a % 65536 + alter(operation, al, bit) as u32,
+        a: r.a - u32::from(al) + u32::from(alter(operation, al, bit)),
         zr: is_zero(operation, al, bit),
         ..r
     }
@@ -81,6 +87,6 @@ fn operate(operation: Operation, bit: u8, r: Registers) -> Registers
 pub(crate) fn control(byte: u8, r: Registers) -> Result<Effect, Cause>
     ensures { (v : Sight) → result ≡ perform v (controlled byte r) }
 {
-    let operation = operation_of(byte / 16).ok_or(Cause::Undefined)?;
+    let operation = Operation::try_from(byte / 16)?;
     Ok(quiet(operate(operation, byte % 16, r)))
 }

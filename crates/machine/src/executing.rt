@@ -33,10 +33,17 @@ fn branch_on_overflow(d: u16, r: Registers) -> Registers
     }
 }
 
+fn low_byte(d: u16) -> u8
+    ensures { result ≡ d % 256 }
+{
+    let [_, low] = d.to_be_bytes();
+    low
+}
+
 fn indexed(d: u16, x: u16) -> u8
     ensures { result ≡ (d + x) % 256 }
 {
-    (d.wrapping_add(x) % 256) as u8
+    low_byte(d.wrapping_add(x))
 }
 
 // The instruction of that name; S is at the next one. What takes an operand from the store is a function of its own: as a line here
@@ -56,8 +63,8 @@ pub fn execute<S: Store>(
         Name::Ld => ld(mode, r, view),
         Name::Ldw => ldw(mode, r, view),
         Name::Ldx => ldx(mode, r, view),
-        Name::Stb => store(mode, r, (r.a % 256) as u8, r.mark_byte(), view),
-        Name::St => store(mode, r, (r.a % 65536) as u16, r.mark_half(), view),
+        Name::Stb => store(mode, r, r.low_byte(), r.mark_byte(), view),
+        Name::St => store(mode, r, r.low_half(), r.mark_half(), view),
         Name::Stw => store(mode, r, r.a, r.mark_full(), view),
         Name::Stx => store(mode, r, r.x, r.mark_x(), view),
         Name::Ad => ad(mode, r, view),
@@ -110,6 +117,6 @@ pub fn execute<S: Store>(
         Name::Hrk => Err(Cause::Halt),
         Name::Sim => Ok(quiet(Registers { fm: false, ..r })),
         Name::Sfm => Ok(quiet(Registers { fm: true, ..r })),
-        Name::Bitl => control((d % 256) as u8, r),
+        Name::Bitl => control(low_byte(d), r),
     }
 }

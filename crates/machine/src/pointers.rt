@@ -9,6 +9,8 @@ use crate::registers::Registers;
 use access::{Cause, View};
 use store::Store;
 
+// Y and Z have instructions of their own here too: a type parameter names no field, and a function that is given would have to say the
+// same record for each.
 pub(crate) fn ldy<S: Store>(mode: Mode, r: Registers, view: &View<S>) -> Result<Effect, Cause>
     ensures { result ≡ does Ldy mode r view.now.bay view.now.bytes }
 {

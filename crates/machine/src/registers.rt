@@ -1,5 +1,5 @@
 ghost use Rattle.machine.specs.Registers.{advanced, computed_a, computed_x, divided, jumped, linked, loaded_a, loaded_x, marked, signed};
-ghost use Rattle.std.specs.Prelude.{◌≡◌};
+ghost use Rattle.std.specs.Prelude.{◌≡◌, ◌%◌};
 
 use word::Register;
 use word::arithmetic::Outcome;
@@ -23,6 +23,21 @@ pub struct Registers {
 }
 
 impl Registers {
+    // The lowest byte of A.
+    pub(crate) fn low_byte(self) -> u8
+        ensures { result ≡ self.a % 256 }
+    {
+        let [_, _, _, low] = self.a.to_be_bytes();
+        low
+    }
+
+    // AL, the low half of A. By a remainder: the library parts a fullword into bytes and not into halves.
+    pub(crate) fn low_half(self) -> u16
+        ensures { result ≡ self.a % 65536 }
+    {
+        (self.a % 65536) as u16
+    }
+
     // N tells the sign of a value, and ZR whether it is zero.
     pub(crate) fn sign<R: Register>(self, value: R) -> Registers
         ensures { result ≡ signed R.width self (R.bits value) }

@@ -19,11 +19,11 @@ impl fmt::Display for Registers {
             ca,
         } = *self;
         write!(f, "{a} {b} {x} {y} {z} {s} {l} ")?;
-        let fm = fm as u8;
-        let n = n as u8;
-        let zr = zr as u8;
-        let of = of as u8;
-        let ca = ca as u8;
+        let fm = u8::from(fm);
+        let n = u8::from(n);
+        let zr = u8::from(zr);
+        let of = u8::from(of);
+        let ca = u8::from(ca);
         write!(f, "{fm} {n} {zr} {of} {ca}")
     }
 }

@@ -46,7 +46,7 @@ impl Registers {
     {
         Registers {
             n: false,
-            zr: self.a % 256 == 0,
+            zr: self.low_byte() == 0,
             ..self
         }
     }
@@ -55,10 +55,10 @@ impl Registers {
     pub(crate) fn mark_half(self) -> Registers
         ensures { result ≡ stored_half self }
     {
-        let fits = self.a < 0x8000 || self.a >= 0xffff_8000;
+        let fits = i16::try_from(self.a.cast_signed()).is_ok();
         Registers {
             of: self.of || !fits,
-            ..self.sign((self.a % 65536) as u16)
+            ..self.sign(self.low_half())
         }
     }
 

@@ -120,5 +120,5 @@ pub(crate) fn scan<S: Store>(r: Registers, x: u16, view: &View<S>) -> Result<Eff
         Place::Operand,
         u8::read(view, r.z.wrapping_add(u16::from(byte))),
     )?;
-    Ok(quiet(judge(r, x, u32::from(entry) & r.a % 256 != 0, false)))
+    Ok(quiet(judge(r, x, entry & r.low_byte() != 0, false)))
 }

@@ -4,7 +4,7 @@ use machine::Registers;
 use std::{fmt, io};
 
 // What the runs so far came to.
-#[derive(Clone, Copy)]
+#[derive(Clone, Copy, Debug, PartialEq, Eq)]
 pub struct Tally {
     pub records: u64,
     pub steps: u64,

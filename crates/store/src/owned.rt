@@ -26,11 +26,11 @@ impl Store for Owned {
     ghost full = { λ s. sym s.held.ok.0 ∙ s.full };
 
     fn read(&self, address: u16) -> u8 {
-        self.held[address as usize]
+        self.held[usize::from(address)]
     }
 
     fn write(&mut self, address: u16, byte: u8) {
-        let at = address as usize;
+        let at = usize::from(address);
         self.held[at] = byte;
     }
 }

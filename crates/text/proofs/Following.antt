@@ -12,9 +12,6 @@ fed s l h = grind (arith, nat_tests)
 pub number_on : (s l : Bytes) (n : ℕ) → a_line l ≡ line_of s → line_after s n ≡ n + 1
 number_on s l n h = let e = lt-ltb (place 10 s) (length s) (fed s l h) in simp e
 
-pub shorter : (s l : Bytes) → a_line l ≡ line_of s → length (rest_of s) < length s
-shorter s l h = let p = fed s l h in let e = lt-ltb (place 10 s) (length s) p in simp (e, length-drop) (omega arith)
-
 stays : (o : Option (Bytes × Bytes)) (n : ℕ) → the_end ≡ line_2 o → number_2 o n ≡ n
 stays None n h = refl
 stays (Some p) n h = let z : ◌≡◌ {A = ℕ} 0 1 = cc in absurd (omega arith)

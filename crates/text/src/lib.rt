@@ -8,5 +8,5 @@ mod search;
 
 pub use line::{Line, Unended};
 pub use lines::Lines;
-pub use number::{decimal, hex_digit};
+pub use number::{decimal, hex_byte, hex_word};
 pub use search::{cut, find};

@@ -29,8 +29,9 @@ pub fn decimal(s: &[u8], low: u32, high: u32) -> Option<u32>
     (u64::from(low) <= n).then_some(n as u32)
 }
 
-// The value of a hexadecimal digit, in either case.
-pub fn hex_digit(byte: u8) -> Option<u8>
+// The value of a hexadecimal digit, in either case. By a match: the library's `to_digit` is a char's and answers a u32, so that there
+// would be a conversion before it and one after it.
+fn hex_digit(byte: u8) -> Option<u8>
     ensures is { result ≡ Rattle.text.specs.Numbers.hex_digit byte }
     ensures within { IfSome result (λ v. v < 16) }
 {
@@ -40,4 +41,21 @@ pub fn hex_digit(byte: u8) -> Option<u8>
         b'a'..=b'f' => Some(byte - b'a' + 10),
         _ => None,
     }
+}
+
+// The value of two hexadecimal digits.
+pub fn hex_byte(high: u8, low: u8) -> Option<u8>
+    ensures { result ≡ Rattle.text.specs.Numbers.hex_byte high low }
+{
+    Some(hex_digit(high)? * 16 + hex_digit(low)?)
+}
+
+// The word that just four hexadecimal digits spell.
+pub fn hex_word(s: &[u8]) -> Option<u16>
+    ensures { result ≡ Rattle.text.specs.Numbers.hex_word s.now }
+{
+    let [a, b, c, d] = s else {
+        return None;
+    };
+    Some(u16::from_be_bytes([hex_byte(*a, *b)?, hex_byte(*c, *d)?]))
 }

@@ -1,7 +1,8 @@
 ghost use Rattle.std.specs.Prelude.{◌≡◌, ◌+◌, ◌-◌, ◌*◌, ◌/◌, ◌%◌, ◌^◌, ◌<◌, ◌≤◌, IfSome};
 ghost use Rattle.word.specs.Fields.{as_signed, unsigned_in, signed_in};
 
-// Each count below 16 is asked for and not a type of its own: every caller passes a literal, where the bound computes.
+// Each count below 16 is asked for and not a type of its own: a caller passes a literal, where the bound computes, or
+// hands on one that it was given and asks for the same.
 
 // So many ones.
 fn mask(count: u16) -> u16
@@ -55,7 +56,8 @@ pub fn unsigned_field(number: i32, limit: u16) -> Option<u16>
     u16::try_from(number).ok().filter(|field| *field < limit)
 }
 
-// The field that holds a number from -half to below `half`, in two's complement.
+// The field that holds a number from -half to below `half`, in two's complement. Compared by hand: half is 128 or 512, and the library has
+// no number of ten bits to try.
 pub fn signed_field(number: i32, half: u16) -> Option<u16>
     requires { half ≤ 512 }
     ensures is { result ≡ signed_in half number }

@@ -1,4 +1,4 @@
-use Rattle.std.proofs.Common.{◌<◌, ◌≤◌, Some, None, Ok, Err, Option, sym, ap, ◌∙◌, arith, rules}
+use Rattle.std.proofs.Common.{ℕ, ◌<◌, ◌≤◌, Some, None, Ok, Err, Option, sym, ap, ◌∙◌, arith, rules}
 use Rattle.listing.specs.declared.entry.Content.{Content}
 use Rattle.listing.specs.declared.entry.Entry.{Entry}
 use Rattle.listing.specs.declared.fault.Fault.TheVariants.{Unended}
@@ -24,18 +24,18 @@ pub returns-then-address-self-clause-is : goal.returns-then-address-self-clause-
 returns-then-address-self-clause-is c =
     let t = c.args.book.now.tables in
     let e = c.in_ok-line.ensures in
-    let a = c.in-Some-3.entry.address in
+    let a = c.from-address.result in
     let x = content_says c.in-Some-3.entry.content in
-    let g = lined t c.lines.self c.next_line.new.self c.in_ok-line.field-0 c.in-Some-2.line (Ok (Some (a, x))) c.in_default.ensures c.in-Some-2.is e.answer e.rest e.number (ap (λ (v : Option Entry). Ok (entry_says v)) (sym c.in-Some-3.is) ∙ c.in_ok-entry.ensures) in
+    let g = lined t c.lines.self c.next_line.new.self c.in_ok-line.field-0 c.in-Some-2.line (Ok (Some (a, x))) c.in_default.ensures c.in-Some-2.is e.answer e.rest e.number (ap (λ (i : ℕ). Ok (Some (i, x))) c.from-address.ensures ∙ ap (λ (v : Option Entry). Ok (entry_says v)) (sym c.in-Some-3.is) ∙ c.in_ok-entry.ensures) in
     too_low t c.lines.self c.next_line.new.self a x g c.if-address-self.true ∙ c.lines.invariant.0
 
 pub returns-in-Word-clause-is : goal.returns-in-Word-clause-is
 returns-in-Word-clause-is c =
     let t = c.args.book.now.tables in
     let e = c.in_ok-line.ensures in
-    let a = c.in-Some-3.entry.address in
+    let a = c.from-address.result in
     let w = c.in-Word.word in
-    let g = lined t c.lines.self c.next_line.new.self c.in_ok-line.field-0 c.in-Some-2.line (Ok (Some (a, a_word w))) c.in_default.ensures c.in-Some-2.is e.answer e.rest e.number (ap (λ (v : Content). Ok (Some (a, content_says v))) (sym c.in-Word.is) ∙ ap (λ (v : Option Entry). Ok (entry_says v)) (sym c.in-Some-3.is) ∙ c.in_ok-entry.ensures) in
+    let g = lined t c.lines.self c.next_line.new.self c.in_ok-line.field-0 c.in-Some-2.line (Ok (Some (a, a_word w))) c.in_default.ensures c.in-Some-2.is e.answer e.rest e.number (ap (λ (i : ℕ). Ok (Some (i, a_word w))) c.from-address.ensures ∙ ap (λ (v : Content). Ok (Some (c.in-Some-3.entry.address, content_says v))) (sym c.in-Word.is) ∙ ap (λ (v : Option Entry). Ok (entry_says v)) (sym c.in-Some-3.is) ∙ c.in_ok-entry.ensures) in
     let h : c.lines.self.end ≤ a = c.if-address-self.false in
     let k : a < 65536 = search rules in
     let p = c.in_ok-place-in-Word.ensures in
@@ -45,9 +45,9 @@ pub lines-preserved-in-Halfwords : goal.lines-preserved-in-Halfwords
 lines-preserved-in-Halfwords c =
     let t = c.args.book.now.tables in
     let e = c.in_ok-line.ensures in
-    let a = c.in-Some-3.entry.address in
+    let a = c.from-address.result in
     let x = halfwords (words c.in-Halfwords.rest.now) in
-    let g = lined t c.lines.self c.next_line.new.self c.in_ok-line.field-0 c.in-Some-2.line (Ok (Some (a, x))) c.in_default.ensures c.in-Some-2.is e.answer e.rest e.number (ap (λ (v : Content). Ok (Some (a, content_says v))) (sym c.in-Halfwords.is) ∙ ap (λ (v : Option Entry). Ok (entry_says v)) (sym c.in-Some-3.is) ∙ c.in_ok-entry.ensures) in
+    let g = lined t c.lines.self c.next_line.new.self c.in_ok-line.field-0 c.in-Some-2.line (Ok (Some (a, x))) c.in_default.ensures c.in-Some-2.is e.answer e.rest e.number (ap (λ (i : ℕ). Ok (Some (i, x))) c.from-address.ensures ∙ ap (λ (v : Content). Ok (Some (c.in-Some-3.entry.address, content_says v))) (sym c.in-Halfwords.is) ∙ ap (λ (v : Option Entry). Ok (entry_says v)) (sym c.in-Some-3.is) ∙ c.in_ok-entry.ensures) in
     (from_here t c.lines.self c.next_line.new.self a x g c.if-address-self.false ∙ c.lines.invariant.0, omega (arith, c.lines.invariant.1))
 
 pub lines-preserved : goal.lines-preserved
