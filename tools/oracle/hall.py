@@ -195,7 +195,7 @@ def parsed(line):
     call, *words = [word for word in line.split(" ") if word]
     if call not in WORDS or len(words) != 1 + len(WORDS[call]):
         raise ValueError(line)
-    bay = as_number(words[0], float("inf"))
+    bay = as_fullword(words[0])
     return call, bay, [read(word) for read, word in zip(WORDS[call], words[1:])]
 
 

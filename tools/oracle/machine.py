@@ -823,15 +823,50 @@ def run_record(book, store, job, record):
     return Run(steps, stop, registers, result)
 
 
-def run_job(book, store, job, records):
-    """The runs of all records of a job, one after the other."""
+def parted(job, content):
+    """The records that a file of them has, one after the other."""
     size = 2 * job.input[1]
-    if size == 0 or len(records) % size:
+    if size == 0 or len(content) % size:
         raise JobRefused("the records have not a whole number of records")
-    return [
-        run_record(book, store, job, records[at:at + size])
-        for at in range(0, len(records), size)
+    return [content[at:at + size] for at in range(0, len(content), size)]
+
+
+def run_jobs(book, store, jobs, contents):
+    """The runs of each job over one store: the first record of every job in
+    the order given, then the second of each that has one, and so on."""
+    records = [parted(job, content) for job, content in zip(jobs, contents)]
+    runs = [[] for _ in jobs]
+    for number in range(max(len(r) for r in records)):
+        for job, mine, done in zip(jobs, records, runs):
+            if number < len(mine):
+                done.append(run_record(book, store, job, mine[number]))
+    return runs
+
+
+def halted(run):
+    return run.stop is not None and run.stop.cause == 3
+
+
+def block(name, job, runs):
+    """The lines that a report has of one job."""
+    lines = []
+    for number, run in enumerate(runs, 1):
+        if not halted(run):
+            how = (f"stopped {run.stop} after {run.steps} steps" if run.stop
+                   else f"spent all its turns, {run.steps} steps")
+            lines.append(f"record {number} {how}, registers {run.registers}")
+    lines += [
+        f"job {name} in bay {job.bay}",
+        f"records {len(runs)}",
+        f"steps {sum(run.steps for run in runs)}",
+        f"halted {sum(halted(run) for run in runs)}",
     ]
+    if runs:
+        lines.append(f"last registers, A B X Y Z S L FM N ZR OF CA: {runs[-1].registers}")
+    if all(halted(run) for run in runs):
+        size = sum(len(run.result) for run in runs)
+        lines.append(f"results {job.results}, {size} bytes")
+    return lines
 
 
 # ---------------------------------------------------------------- commands
@@ -861,18 +896,10 @@ def command_recover(book_path, image_path, *job_paths):
         if os.path.exists(job.results):
             raise JobRefused(f"{job.results} exists")
     check_bays(jobs)
-    for job in jobs:
-        runs = run_job(book, store, job, open(job.records, "rb").read())
-        halted = [run.stop is not None and run.stop.cause == 3 for run in runs]
-        print(f"bay {job.bay}: {len(runs)} records, "
-              f"{sum(run.steps for run in runs)} steps, {sum(halted)} halted")
-        if runs:
-            print(f"  registers {runs[-1].registers}")
-        for number, run in enumerate(runs, 1):
-            if not halted[number - 1]:
-                how = f"stopped {run.stop}" if run.stop else "spent"
-                print(f"  record {number}: {run.steps} steps, {how}")
-        if all(halted):
+    contents = [open(job.records, "rb").read() for job in jobs]
+    for name, job, runs in zip(job_paths, jobs, run_jobs(book, store, jobs, contents)):
+        print("\n".join(block(name, job, runs)))
+        if all(halted(run) for run in runs):
             write_new(job.results, b"".join(run.result for run in runs))
 
 

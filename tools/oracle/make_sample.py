@@ -1,18 +1,29 @@
 """Makes the derived files of the sample, and checks them.
 
-    python3 make_sample.py [DATA]       DATA is ../../crates/recover/data unless given
+    python3 make_sample.py [CRATES]     CRATES is ../../crates unless given
 
-Reads shore.book, shore.lst, calibrate.job and undo.job; writes shore.img,
-counts.rec and heights.rec anew; prints what the runs took.
+Reads shore.book, shore.lst, calibrate.job, undo.job and smooth.job in
+CRATES/recover/data. Writes there shore.img, counts.rec, heights.rec and
+smooth.rec anew, and beside it args and stdout, what `recover` is given and must
+print. Copies the sample's small files to the other programs that read them.
+Prints what the runs took.
 """
 
 import os
+import shutil
 import sys
 
 import machine
 
-DATA = sys.argv[1] if len(sys.argv) > 1 else os.path.join(
-    os.path.dirname(os.path.abspath(__file__)), "..", "..", "crates", "recover", "data")
+CRATES = sys.argv[1] if len(sys.argv) > 1 else os.path.join(
+    os.path.dirname(os.path.abspath(__file__)), "..", "..", "crates")
+DATA = os.path.join(CRATES, "recover", "data")
+JOBS = ("calibrate.job", "undo.job", "smooth.job")
+COPIES = {
+    "assemble": ("shore.book", "shore.lst"),
+    "cases": ("shore.book",),
+    "demo": ("shore.book", "shore.lst", "calibrate.job", "undo.job", "counts.rec"),
+}
 
 
 def path(name):
@@ -29,13 +40,14 @@ def write(name, content):
         file.write(content)
 
 
+def write_lines(name, lines):
+    """A text of the program `recover`, beside its data."""
+    with open(os.path.join(CRATES, "recover", name), "w", newline="") as file:
+        file.write("".join(line + "\n" for line in lines))
+
+
 def halfwords(values):
     return b"".join((v % 65536).to_bytes(2, "big") for v in values)
-
-
-def numbers(content):
-    return [machine.signed(int.from_bytes(content[i:i + 2], "big"), 16)
-            for i in range(0, len(content), 2)]
 
 
 def towards_zero(numerator, denominator):
@@ -48,18 +60,25 @@ def height(count):
     return towards_zero((count - 2048) * 13, 8)
 
 
+def smoothed(heights):
+    """The running means of one record, the same way."""
+    means = [towards_zero(sum(heights[i - 1:i + 2]), 3) for i in range(1, len(heights) - 1)]
+    return [heights[0], *means, heights[-1]]
+
+
 def half_away(value):
     return int(value + 0.5) if value >= 0 else -int(-value + 0.5)
 
 
-def report(name, runs):
+def tell(name, job, runs):
     print(name)
     for number, run in enumerate(runs, 1):
-        assert run.stop.cause == 3, run.stop
+        assert machine.halted(run), run.stop
         print(f"  record {number}: {run.steps} steps, stopped {run.stop}")
     print("  registers after the last, A B X Y Z S L FM N ZR OF CA:")
     print(f"  {runs[-1].registers}")
     assert all(run.registers.of == 0 for run in runs)
+    assert 3 * max(run.steps for run in runs) <= job.turns[0] * job.turns[1]
 
 
 def main():
@@ -69,33 +88,37 @@ def main():
     write("shore.img", image)
     print(f"shore.img: {len(said)} halfwords")
 
+    # what must come out, by the formulas alone
     counts = [i * 1597 % 4096 for i in range(4096)]
     assert sorted(counts) == list(range(4096))
-    write("counts.rec", halfwords(counts))
+    heights = [height(c) for c in counts]
+    means = [mean for at in range(0, 4096, 1024) for mean in smoothed(heights[at:at + 1024])]
+    sums = [sum(heights[i - 1:i + 2]) for i in range(1, 4095) if 0 < i % 1024 < 1023]
+    assert min(sums) < 0 < max(sums) and any(s < 0 and s % 3 for s in sums)
+    records = {"counts.rec": counts, "heights.rec": heights, "smooth.rec": means}
+    for name, values in records.items():
+        write(name, halfwords(values))
 
-    jobs = [machine.parse_job(read(n).decode("ascii"))
-            for n in ("calibrate.job", "undo.job")]
-    machine.check_bays(jobs)  # both may run in one hall
-    calibrate, undo = jobs
-    store = bytearray(image)
-
-    runs = machine.run_job(book, store, calibrate, read("counts.rec"))
-    heights = b"".join(run.result for run in runs)
-    assert numbers(heights) == [height(c) for c in counts]
-    write("heights.rec", heights)
-    report("calibrate.job", runs)
-    most = max(run.steps for run in runs)
-    assert 3 * most <= calibrate.turns[0] * calibrate.turns[1]
-
-    runs = machine.run_job(book, store, undo, heights)
-    assert b"".join(run.result for run in runs) == read("counts.rec")
-    report("undo.job", runs)
-    most = max(run.steps for run in runs)
-    assert 3 * most <= undo.turns[0] * undo.turns[1]
+    # what comes out, all jobs in one hall
+    jobs = [machine.parse_job(read(name).decode("ascii")) for name in JOBS]
+    machine.check_bays(jobs)
+    contents = [read(job.records) for job in jobs]
+    lines = []
+    for name, job, runs in zip(JOBS, jobs, machine.run_jobs(book, bytearray(image), jobs, contents)):
+        tell(name, job, runs)
+        expected = read(job.results.replace(".out", ".rec"))
+        assert b"".join(run.result for run in runs) == expected, name
+        lines += machine.block(name, job, runs)
+    write_lines("args", ["shore.book", "shore.img", *JOBS])
+    write_lines("stdout", lines)
 
     wrong = [c for c in counts if half_away(height(c) / 1.625) + 2048 != c]
     print(f"a division by 1.625 and rounding gets {len(wrong)} of {len(counts)} wrong")
     print(f"  the lowest: {min(wrong)}, the highest: {max(wrong)}")
+
+    for crate, names in COPIES.items():
+        for name in names:
+            shutil.copyfile(path(name), os.path.join(CRATES, crate, "data", name))
 
 
 main()

@@ -12,15 +12,7 @@ fn number(digits: &[u8], high: u32) -> Result<u32, Unread>
 }
 
 pub fn half(word: &[u8]) -> Result<u16, Unread> {
-    Ok(number(word, 65535)? as u16)
-}
-
-fn full(word: &[u8]) -> Result<u32, Unread> {
-    number(word, u32::MAX)
-}
-
-fn flag(word: &[u8]) -> Result<bool, Unread> {
-    Ok(number(word, 1)? == 1)
+    inputs::half(word).ok_or(Unread::NoCase)
 }
 
 // Not a listing's `integer`, whose ends are a halfword's: the least number here has no positive one to be taken from.
@@ -31,25 +23,8 @@ pub fn signed(word: &[u8]) -> Result<i32, Unread> {
     }
 }
 
-// A, B, X, Y, Z, S, L, and the markers.
 pub fn registers(words: &[&[u8]]) -> Result<Registers, Unread> {
-    let [a, b, x, y, z, s, l, fm, n, zr, of, ca] = words else {
-        return Err(Unread::NoCase);
-    };
-    Ok(Registers {
-        a: full(a)?,
-        b: full(b)?,
-        x: half(x)?,
-        y: half(y)?,
-        z: half(z)?,
-        s: half(s)?,
-        l: half(l)?,
-        fm: flag(fm)?,
-        n: flag(n)?,
-        zr: flag(zr)?,
-        of: flag(of)?,
-        ca: flag(ca)?,
-    })
+    inputs::registers(words).ok_or(Unread::NoCase)
 }
 
 fn kind(word: &[u8]) -> Result<Kind, Unread> {

@@ -2,6 +2,7 @@ ghost use Rattle.std.specs.Prelude.{◌≡◌};
 ghost use Rattle.inputs.specs.Faults.{IsAbout, IsOfFile};
 ghost use Rattle.inputs.specs.declared.failure.Failure.TheVariants.{Memory, System};
 
+use bays::Refusal;
 use std::alloc::{AllocError, Global};
 use std::io;
 use store::Unmade;
@@ -15,17 +16,37 @@ pub enum Fault {
     #[error("{0}")]
     Book(book::Refused),
     #[error("the image is refused with {}: it has {bytes} bytes in place of 65536", .unmade.number())]
-    Image { unmade: Unmade, bytes: usize },
+    Image {
+        unmade: Unmade,
+        bytes: usize,
+    },
     #[error("{0}")]
     Job(job::Refused),
     #[error("{0}")]
     Listing(listing::Refused),
     // No whole number of records of that size.
     #[error("{bytes} bytes are no whole number of records of {size} bytes")]
-    Records { bytes: usize, size: usize },
+    Records {
+        bytes: usize,
+        size: usize,
+    },
+    #[error("open of bay {bay} is refused with {}", .refusal.number())]
+    Opening {
+        bay: u8,
+        refusal: Refusal,
+    },
+    #[error("grant {kind} {first} {last} is refused with {}", .refusal.number())]
+    Granting {
+        kind: &'static str,
+        first: u16,
+        last: u16,
+        refusal: Refusal,
+    },
     // An output file that is there already, by what the program calls it.
     #[error("{0} exists already, and is not overwritten")]
     Exists(&'static str),
+    #[error("it is the results file of an earlier job too")]
+    Claimed,
 }
 
 // Why a program ends with status 1; printed, it is the line that says so.
@@ -38,6 +59,10 @@ pub enum Failure {
     // A run that did not halt, in the program's words.
     #[error("{0}")]
     Unhalted(&'static str),
+    #[error("line {line} is no call")]
+    NoCall { line: usize },
+    #[error("line {line} lacks its line feed")]
+    Unended { line: usize },
     #[error("{0}")]
     System(io::Error),
     #[error("{0}")]
@@ -95,6 +120,33 @@ mod tests {
             told.as_str(),
             "a.rec: 3 bytes are no whole number of records of 2 bytes"
         );
+        Ok(())
+    }
+
+    #[test]
+    fn a_refused_grant_is_told_with_its_job(rt: HostRuntime) -> Result<(), Fail> {
+        let fault = Fault::Granting {
+            kind: "write",
+            first: 4128,
+            last: 4159,
+            refusal: Refusal::Clash,
+        };
+        let told = Failure::of_file(rt.alloc(), "undo.job", fault).to_string(rt.alloc())?;
+        assert_eq!(rt;
+            told.as_str(),
+            "undo.job: grant write 4128 4159 is refused with 6"
+        );
+        Ok(())
+    }
+
+    #[test]
+    fn a_refused_opening_is_told_with_its_job(rt: HostRuntime) -> Result<(), Fail> {
+        let fault = Fault::Opening {
+            bay: 2,
+            refusal: Refusal::Taken,
+        };
+        let told = Failure::of_file(rt.alloc(), "undo.job", fault).to_string(rt.alloc())?;
+        assert_eq!(rt; told.as_str(), "undo.job: open of bay 2 is refused with 3");
         Ok(())
     }
 

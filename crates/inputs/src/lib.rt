@@ -6,6 +6,7 @@ mod ending;
 mod failure;
 mod files;
 mod runs;
+mod values;
 
 pub use arguments::words;
 pub use ending::{ended, write_new};
@@ -14,3 +15,4 @@ pub use files::{
     assembled, parse_job, read_book, read_file, read_image, read_records, refuse_existing,
 };
 pub use runs::{halted, run_records};
+pub use values::{full, half, registers};

@@ -1,7 +1,11 @@
-// Runs a shore program over a file of records: recover BOOK IMAGE JOB
+// Runs shore programs, up to eight in one hall, each over a file of records: recover BOOK IMAGE JOB..
 #![tactic(auto)]
 
+mod institute;
+mod preparing;
+mod record;
 mod report;
+mod rotation;
 mod work;
 
 use inputs::ended;

@@ -12,15 +12,15 @@ pub struct Tally {
     pub registers: Registers,
 }
 
-fn print_unhalted(rt: &HostRuntime, record: u64, ran: Ran) -> io::Result<()> {
+fn print_unhalted(rt: &HostRuntime, name: &str, record: u64, ran: Ran) -> io::Result<()> {
     let steps = ran.steps;
     let registers = ran.registers;
     match ran.stop {
         Some(stop) => println!(rt;
-            "record {record} stopped {stop} after {steps} steps, registers {registers}"
+            "job {name} record {record} stopped {stop} after {steps} steps, registers {registers}"
         ),
         None => println!(rt;
-            "record {record} spent all its turns, {steps} steps, registers {registers}"
+            "job {name} record {record} spent all its turns, {steps} steps, registers {registers}"
         ),
     }
 }
@@ -36,7 +36,7 @@ impl Tally {
     }
 
     // One run more; told where it did not halt.
-    pub fn count(&mut self, rt: &HostRuntime, ran: Ran) -> io::Result<()> {
+    pub fn count(&mut self, rt: &HostRuntime, name: &str, ran: Ran) -> io::Result<()> {
         self.records = self.records.saturating_add(1);
         self.steps = self.steps.saturating_add(u64::from(ran.steps));
         self.registers = ran.registers;
@@ -44,7 +44,7 @@ impl Tally {
             self.halted = self.halted.saturating_add(1);
             return Ok(());
         }
-        print_unhalted(rt, self.records, ran)
+        print_unhalted(rt, name, self.records, ran)
     }
 
     pub fn all_halted(&self) -> bool {

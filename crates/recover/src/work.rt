@@ -1,65 +1,95 @@
-use crate::report::Tally;
-use book::Book;
-use inputs::{
-    Failure, parse_job, read_book, read_file, read_image, read_records, refuse_existing,
-    run_records, words, write_new,
-};
-use job::Job;
+use crate::institute::Institute;
+use crate::preparing::prepare;
+use crate::rotation::run_all;
+use inputs::{Failure, Fault, read_book, read_file, read_image, words, write_new};
+use session::Session;
+use std::alloc::AllocError;
 use std::io;
 use store::Owned;
 
-// About a second's work.
-const STEPS_BETWEEN_NOTES: u64 = 20_000_000;
+// A job for each bay.
+const MOST_JOBS: usize = 8;
 
-// Runs the job on each record, and gives what came of it with the results one after the other.
-fn run_all(
-    rt: &HostRuntime,
-    book: &Book,
-    job: &Job,
-    store: &mut Owned,
-    records: &[u8],
-) -> Result<(Tally, Vec<u8>), Failure> {
-    let mut tally = Tally::new(job.registers);
-    let mut noted: u64 = 0;
-    let results = run_records(
-        rt.alloc(),
-        book,
+// What came of a job; its results are written if every run halted.
+fn finish(rt: &HostRuntime, institute: &Institute) -> io::Result<()> {
+    let Institute {
+        name,
         job,
-        store,
-        records,
-        |ran| -> Result<(), Failure> {
-            tally.count(rt, ran)?;
-            if tally.steps.saturating_sub(noted) >= STEPS_BETWEEN_NOTES {
-                noted = tally.steps;
-                eprintln!(rt; "{} records", tally.records)?;
-            }
-            Ok(())
-        },
-    )?;
-    Ok((tally, results))
+        tally,
+        results,
+        ..
+    } = institute;
+    println!(rt; "job {name} in bay {}\n{tally}", job.number)?;
+    if tally.all_halted() {
+        write_new(rt, job.results, results)?;
+        println!(rt; "results {}, {} bytes", job.results, results.len())?;
+    }
+    Ok(())
 }
 
-fn write_results(rt: &HostRuntime, name: &str, results: &[u8]) -> io::Result<()> {
-    write_new(rt, name, results)?;
-    println!(rt; "results {name}, {} bytes", results.len())
+// The jobs by their texts; no two may have one results file.
+fn read_institutes<'a>(
+    rt: &HostRuntime,
+    names: &'a [String],
+    texts: &'a [Vec<u8>],
+) -> Result<Vec<Institute<'a>>, Failure> {
+    let mut institutes: Vec<Institute> = Vec::new(rt.alloc());
+    for (name, text) in names.iter().zip(texts) {
+        let institute = Institute::read(rt, name.as_str(), text)?;
+        let file = institute.job.results;
+        if institutes.iter().any(|earlier| earlier.job.results == file) {
+            return Err(Failure::of_file(rt.alloc(), file, Fault::Claimed));
+        }
+        institutes.push(institute).map_err(AllocError::from)?;
+    }
+    Ok(institutes)
+}
+
+// Runs all jobs in one hall: nothing runs before every bay is prepared.
+fn run_jobs(
+    rt: &HostRuntime,
+    session: &mut Session<Owned>,
+    institutes: &mut [Institute],
+) -> Result<(), Failure> {
+    for institute in institutes.iter() {
+        prepare(rt.alloc(), session, institute)?;
+    }
+    run_all(rt, session, institutes)
+}
+
+fn finish_all(rt: &HostRuntime, institutes: &[Institute]) -> Result<(), Failure> {
+    for institute in institutes {
+        finish(rt, institute)?;
+    }
+    if institutes
+        .iter()
+        .all(|institute| institute.tally.all_halted())
+    {
+        Ok(())
+    } else {
+        Err(Failure::Unhalted("not every run halted; a job with a run that did not has no results"))
+    }
+}
+
+fn recover_all(rt: &HostRuntime, book: &str, image: &str, names: &[String]) -> Result<(), Failure> {
+    let book = read_book(rt, book)?;
+    let image = read_image(rt, image)?;
+    let texts = names
+        .iter()
+        .map(|name| read_file(rt, name.as_str()))
+        .try_collect::<Vec<Vec<u8>>>(rt.alloc())?;
+    let mut institutes = read_institutes(rt, names, &texts)?;
+    let mut session = Session::new(image, book);
+    run_jobs(rt, &mut session, &mut institutes)?;
+    finish_all(rt, &institutes)
 }
 
 pub fn recover(rt: &HostRuntime) -> Result<(), Failure> {
     let words = words(rt)?;
-    let [book, image, name] = words.as_slice() else {
-        return Err(Failure::Usage("recover BOOK IMAGE JOB"));
-    };
-    let book = read_book(rt, book.as_str())?;
-    let mut store = read_image(rt, image.as_str())?;
-    let text = read_file(rt, name.as_str())?;
-    let job = parse_job(rt, name.as_str(), &text)?;
-    refuse_existing(rt, job.results, "the results file")?;
-    let records = read_records(rt, &job)?;
-    let (tally, results) = run_all(rt, &book, &job, &mut store, &records)?;
-    println!(rt; "job {name} in bay {}\n{tally}", job.number)?;
-    if !tally.all_halted() {
-        return Err(Failure::Unhalted("not every run halted, so no results are written"));
+    match words.as_slice() {
+        [book, image, names @ ..] if (1..=MOST_JOBS).contains(&names.len()) => {
+            recover_all(rt, book.as_str(), image.as_str(), names)
+        }
+        _ => Err(Failure::Usage("recover BOOK IMAGE JOB.. (one to eight)")),
     }
-    write_results(rt, job.results, &results)?;
-    Ok(())
 }

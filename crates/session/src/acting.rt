@@ -1,15 +1,16 @@
 ghost use Rattle.history.specs.Calls;
 ghost use Rattle.history.specs.Calls.{call, close, copy, load, look, open_bay, own, seal, set_all, shared, turn};
 ghost use Rattle.history.specs.Hall.{apply};
-ghost use Rattle.session.specs.Serve.{Fits, said, said_done, said_shown, serve};
-ghost use Rattle.std.specs.Prelude.{◌≡◌, Some, vec_len};
+ghost use Rattle.session.specs.Serve.{Fits, Made, act_of, said, said_done, said_shown, serve, served};
+ghost use Rattle.std.specs.Prelude.{◌≡◌, Some};
 
-use crate::request::Reply;
-use crate::slot::{Slot, discard};
+use crate::request::{Deed, Reply};
+use crate::slot::Slot;
 use access::Grant;
 use bays::Refusal;
 use hall::{AtStage, Hall, Handle, Refused, Shown};
 use machine::Registers;
+use std::alloc::{AllocError, Global};
 use store::Store;
 
 fn done_or_refused(res: Result<(), Refusal>) -> Reply
@@ -38,7 +39,7 @@ fn open_in<S: Store>(hall: &mut Hall<S>, number: u8, slot: Slot) -> (Slot, Reply
 {
     match hall.open(number) {
         Ok(handle) => {
-            discard(slot);
+            slot.discard();
             (Slot::Preparing(handle), Reply::Done)
         }
         Err(refusal) => (slot, Reply::Refused(refusal)),
@@ -75,7 +76,7 @@ fn seal_in<S: Store>(hall: &mut Hall<S>, number: u8, slot: Slot) -> (Slot, Reply
     }
 }
 
-fn close_in<S: Store>(hall: &mut Hall<S>, number: u8, slot: Slot) -> (Slot, Reply)
+pub(crate) fn close_in<S: Store>(hall: &mut Hall<S>, number: u8, slot: Slot) -> (Slot, Reply)
     requires { Fits hall.old.bays number slot }
     ensures reply { said result.1 ≡ (serve number (shared close) hall.old).reply }
     ensures after { hall.new ≡ (serve number (shared close) hall.old).hall }
@@ -180,44 +181,70 @@ fn look_in<S: Store>(hall: &mut Hall<S>, number: u8, slot: Slot) -> (Slot, Reply
     }
 }
 
-// The buffer is filled and handed on, or let go.
+// So many bytes, in a buffer of their own.
 fn copy_with<S: Store, K: AtStage>(
+    heap: Global,
     hall: &Hall<S>,
     handle: &Handle<K>,
     address: u16,
-    buffer: Vec<u8>,
-) -> Reply
-    ensures reply { said result ≡ Some (apply (call handle.now.bay K.STAGE (own (copy address (vec_len buffer)))) hall.now).answer }
-    ensures after { hall.now ≡ (apply (call handle.now.bay K.STAGE (own (copy address (vec_len buffer)))) hall.now).hall }
+    length: usize,
+) -> Result<Reply, AllocError>
+    ensures made { Made result hall.now hall.now (served (Some K.STAGE) handle.now.bay (own (copy address length)) hall.now) }
 {
-    let mut buffer = buffer;
+    let mut buffer = vec![in heap; 0u8; length]?;
     match hall.copy(handle, address, &mut buffer) {
-        Ok(()) => Reply::Copied(buffer),
-        Err(refusal) => Reply::Refused(refusal),
+        Ok(()) => Ok(Reply::Copied(buffer)),
+        Err(refusal) => Ok(Reply::Refused(refusal)),
     }
 }
 
 fn copy_in<S: Store>(
+    heap: Global,
     hall: &mut Hall<S>,
     number: u8,
     slot: Slot,
     address: u16,
-    buffer: Vec<u8>,
-) -> (Slot, Reply)
+    length: usize,
+) -> (Slot, Result<Reply, AllocError>)
     requires { Fits hall.old.bays number slot }
-    ensures reply { said result.1 ≡ (serve number (own (copy address (vec_len buffer))) hall.old).reply }
-    ensures after { hall.new ≡ (serve number (own (copy address (vec_len buffer))) hall.old).hall }
+    ensures made { Made result.1 hall.old hall.new (serve number (own (copy address length)) hall.old) }
     ensures fits { Fits hall.new.bays number result.0 }
 {
     match slot {
-        Slot::Empty => (Slot::Empty, Reply::NoHandle),
+        Slot::Empty => (Slot::Empty, Ok(Reply::NoHandle)),
         Slot::Preparing(handle) => {
-            let reply = copy_with(hall, &handle, address, buffer);
+            let reply = copy_with(heap, hall, &handle, address, length);
             (Slot::Preparing(handle), reply)
         }
         Slot::Sealed(handle) => {
-            let reply = copy_with(hall, &handle, address, buffer);
+            let reply = copy_with(heap, hall, &handle, address, length);
             (Slot::Sealed(handle), reply)
         }
     }
+}
+
+// A deed done with what is held for its bay.
+pub(crate) fn act_in<S: Store>(
+    heap: Global,
+    hall: &mut Hall<S>,
+    number: u8,
+    slot: Slot,
+    deed: &Deed,
+) -> (Slot, Result<Reply, AllocError>)
+    requires { Fits hall.old.bays number slot }
+    ensures made { Made result.1 hall.old hall.new (serve number (act_of deed.now) hall.old) }
+    ensures fits { Fits hall.new.bays number result.0 }
+{
+    let (slot, reply) = match deed {
+        Deed::Open => open_in(hall, number, slot),
+        Deed::Grant(grant) => grant_in(hall, number, slot, *grant),
+        Deed::Load(address, bytes) => load_in(hall, number, slot, *address, bytes),
+        Deed::Set(registers) => set_in(hall, number, slot, *registers),
+        Deed::Seal => seal_in(hall, number, slot),
+        Deed::Turn(budget) => turn_in(hall, number, slot, *budget),
+        Deed::Look => look_in(hall, number, slot),
+        Deed::Copy(address, length) => return copy_in(heap, hall, number, slot, *address, *length),
+        Deed::Close => close_in(hall, number, slot),
+    };
+    (slot, Ok(reply))
 }

@@ -5,7 +5,6 @@ mod acting;
 mod closing;
 mod driving;
 mod request;
-mod serving;
 mod session;
 mod slot;
 

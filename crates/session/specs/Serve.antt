@@ -1,5 +1,5 @@
 -- What a list of requests is answered by one who keeps the handles.
-use Rattle.std.specs.Prelude.{◌≡◌, ℕ, suc, ◌+◌, ◌<◌, Bool, true, ◌&&◌, List, [], ◌∷◌, length, Some, None, Ok, Err, vec_items, Option, Result, ◌==◌}
+use Rattle.std.specs.Prelude.{◌≡◌, ℕ, suc, Bool, true, ◌&&◌, List, [], ◌∷◌, length, Some, None, Ok, Err, vec_items, Option, Result, ◌==◌}
 use Rattle.bays.specs.Bays.{bay_at}
 use Rattle.bays.specs.Refusals.{number}
 use Rattle.bays.specs.Stages.{at_stage, is_free}
@@ -119,9 +119,9 @@ unfoldable pub fits_from : List BayRecord → ℕ → List Slot → Bool
 fits_from l n [] = true
 fits_from l n (s ∷ ss) = fits l n s && fits_from l (suc n) ss
 
--- eight slots, each with the handle of its bay
+-- eight bays and eight slots, each with the handle of its bay
 abbrev pub all_fit : List BayRecord → List Slot → Bool
-all_fit l ss = length ss == 8 && fits_from l 1 ss
+all_fit l ss = (length l == 8 && length ss == 8) && fits_from l 1 ss
 
 -- a request that was served, or not even made for want of memory
 abbrev pub Made : {E : Type 0} → Result Reply E → Hall → Hall → Served → Type 0

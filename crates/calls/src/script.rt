@@ -1,0 +1,36 @@
+use crate::call::read_call;
+use inputs::Failure;
+use session::Request;
+use std::alloc::{AllocError, Global};
+use text::{Line, Lines, Unended};
+
+// Blank lines and comments ask nothing.
+fn is_silent(line: &[u8]) -> bool {
+    match line {
+        [b'#', ..] => true,
+        _ => line.iter().all(|byte| *byte == b' '),
+    }
+}
+
+fn take_line(heap: Global, requests: &mut Vec<Request>, line: Line) -> Result<(), Failure> {
+    if is_silent(line.text) {
+        return Ok(());
+    }
+    let request = read_call(heap, line.text)?.ok_or(Failure::NoCall { line: line.number })?;
+    requests.push(request).map_err(AllocError::from)?;
+    Ok(())
+}
+
+fn unended(last: Unended) -> Failure {
+    Failure::Unended { line: last.line }
+}
+
+// The calls of a script, each a line of it.
+pub fn read_script(heap: Global, text: &[u8]) -> Result<Vec<Request>, Failure> {
+    let mut requests = Vec::new(heap);
+    let mut lines = Lines::new(text);
+    'lines: while let Some(line) = lines.next_line().map_err(unended)? {
+        take_line(heap, &mut requests, line)?;
+    }
+    Ok(requests)
+}
