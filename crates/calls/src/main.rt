@@ -1,9 +1,10 @@
-// Makes the calls of a script in one hall, one line of answer each: calls BOOK IMAGE < SCRIPT
+// Makes the calls of a script in one hall, one line of answer each: calls BOOK IMAGE [TABLE] < SCRIPT
 #![tactic(auto)]
 
 mod answer;
 mod call;
 mod script;
+mod table;
 mod work;
 
 use inputs::ended;

@@ -1,10 +1,12 @@
 use crate::answer::print_reply;
 use crate::script::read_script;
+use crate::table::read_table;
 use book::Book;
-use inputs::{Failure, read_file, words};
-use session::{Request, drive};
+use inputs::{Failure, read_file, words, zeroed};
+use session::{Reply, Request, drive, drive_mapped};
 use std::io::Read;
-use store::{Owned, check_size};
+use store::{Store, check_size};
+use stores::{Image, check_table};
 
 fn read_input(rt: &HostRuntime) -> Result<Vec<u8>, Failure> {
     let mut text = Vec::new(rt.alloc());
@@ -12,17 +14,30 @@ fn read_input(rt: &HostRuntime) -> Result<Vec<u8>, Failure> {
     Ok(text)
 }
 
-// A book that is refused ends all, with its number and the line.
-fn with_book(
+fn print_replies(rt: &HostRuntime, replies: &[Reply]) -> Result<(), Failure> {
+    for reply in replies {
+        print_reply(rt, reply)?;
+    }
+    Ok(())
+}
+
+// Over a store, by the pages of the table if there is one; a table that is refused ends all, with its number.
+fn answer_over<S: Store + Drop>(
     rt: &HostRuntime,
-    text: &[u8],
-    image: Vec<u8>,
+    store: S,
+    table: Option<Vec<u8>>,
+    book: Book,
     requests: &[Request],
 ) -> Result<(), Failure> {
-    let mut book = Book::new();
-    match book.read(text) {
-        Ok(()) => with_image(rt, book, image, requests),
-        Err(refused) => Ok(println!(rt; "refused {} {}", refused.fault.number(), refused.line)?),
+    let Some(text) = table else {
+        return print_replies(rt, &drive(rt.alloc(), store, book, requests)?);
+    };
+    match read_table(&text) {
+        Ok(table) => match check_table(&table) {
+            Ok(()) => print_replies(rt, &drive_mapped(rt.alloc(), store, table, book, requests)?),
+            Err(unmapped) => Ok(println!(rt; "refused {}", unmapped.number())?),
+        },
+        Err(unmapped) => Ok(println!(rt; "refused {}", unmapped.number())?),
     }
 }
 
@@ -30,36 +45,42 @@ fn with_book(
 fn with_image(
     rt: &HostRuntime,
     book: Book,
-    image: Vec<u8>,
+    image: &[u8],
+    table: Option<Vec<u8>>,
     requests: &[Request],
 ) -> Result<(), Failure> {
-    match check_size(&image) {
-        Ok(()) => answer_all(rt, Owned::new(image), book, requests),
+    let mut work = zeroed(rt.alloc(), 65536)?;
+    match check_size(image) {
+        Ok(()) => answer_over(rt, Image::new(image, &mut work), table, book, requests),
         Err(unmade) => Ok(println!(rt; "refused {}", unmade.number())?),
     }
 }
 
-fn answer_all(
+// And a book that is refused, with its number and the line.
+fn with_book(
     rt: &HostRuntime,
-    store: Owned,
-    book: Book,
+    book: &[u8],
+    image: &[u8],
+    table: Option<Vec<u8>>,
     requests: &[Request],
 ) -> Result<(), Failure> {
-    let replies = drive(rt.alloc(), store, book, requests)?;
-    for reply in &replies {
-        print_reply(rt, reply)?;
+    let mut made = Book::new();
+    match made.read(book) {
+        Ok(()) => with_image(rt, made, image, table, requests),
+        Err(refused) => Ok(println!(rt; "refused {} {}", refused.fault.number(), refused.line)?),
     }
-    Ok(())
 }
 
 pub fn make_calls(rt: &HostRuntime) -> Result<(), Failure> {
     let words = words(rt)?;
-    let [book, image] = words.as_slice() else {
-        return Err(Failure::Usage("calls BOOK IMAGE < SCRIPT"));
+    let (book, image, table) = match words.as_slice() {
+        [book, image] => (book, image, None),
+        [book, image, table] => (book, image, Some(read_file(rt, table.as_str())?)),
+        _ => return Err(Failure::Usage("calls BOOK IMAGE [TABLE] < SCRIPT")),
     };
     let book = read_file(rt, book.as_str())?;
     let image = read_file(rt, image.as_str())?;
     let text = read_input(rt)?;
     let requests = read_script(rt.alloc(), &text)?;
-    with_book(rt, &book, image, &requests)
+    with_book(rt, &book, &image, table, &requests)
 }

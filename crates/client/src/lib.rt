@@ -2,6 +2,8 @@
 #![tactic(auto)]
 
 #[cfg(test)]
+mod piles;
+#[cfg(test)]
 mod tests;
 mod visiting;
 

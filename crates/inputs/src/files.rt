@@ -20,7 +20,10 @@ pub fn read_book(rt: &HostRuntime, name: &str) -> Result<Book, Failure> {
     Ok(book)
 }
 
-pub fn read_image(rt: &HostRuntime, name: &str) -> Result<Owned, Failure> {
+// An image of a store's size.
+pub fn read_image(rt: &HostRuntime, name: &str) -> Result<Vec<u8>, Failure>
+    ensures { IfOk result (λ v. vec_len v ≡ 65536) }
+{
     let image = read_file(rt, name)?;
     let bytes = image.len();
     check_size(&image).map_err(|unmade| Failure::of_file(
@@ -28,15 +31,16 @@ pub fn read_image(rt: &HostRuntime, name: &str) -> Result<Owned, Failure> {
         name,
         Fault::Image { unmade, bytes },
     ))?;
-    Ok(Owned::new(image))
+    Ok(image)
 }
 
 pub fn parse_job<'a>(rt: &HostRuntime, name: &str, text: &'a [u8]) -> Result<Job<'a>, Failure> {
     read_job(text).map_err(|refused| Failure::of_file(rt.alloc(), name, Fault::Job(refused)))
 }
 
+// So many bytes of zero.
 #[tactic(auto, unfolding(crate::specs::Assembled::zeros))]
-fn zeroed(heap: Global, length: usize) -> Result<Vec<u8>, AllocError>
+pub fn zeroed(heap: Global, length: usize) -> Result<Vec<u8>, AllocError>
     ensures bytes { IfOk result (λ v. v.items ≡ zeros length) }
     ensures len { IfOk result (λ v. vec_len v ≡ length) }
 {

@@ -1,11 +1,11 @@
 use crate::institute::Institute;
 use crate::preparing::prepare;
 use crate::rotation::run_all;
-use inputs::{Failure, Fault, read_book, read_file, read_image, words, write_new};
+use inputs::{Failure, Fault, read_book, read_file, read_image, words, write_new, zeroed};
 use session::Session;
 use std::alloc::AllocError;
 use std::io;
-use store::Owned;
+use stores::Image;
 
 // A job for each bay.
 const MOST_JOBS: usize = 8;
@@ -48,7 +48,7 @@ fn read_institutes<'a>(
 // Runs all jobs in one hall: nothing runs before every bay is prepared.
 fn run_jobs(
     rt: &HostRuntime,
-    session: &mut Session<Owned>,
+    session: &mut Session<Image>,
     institutes: &mut [Institute],
 ) -> Result<(), Failure> {
     for institute in institutes.iter() {
@@ -74,12 +74,13 @@ fn finish_all(rt: &HostRuntime, institutes: &[Institute]) -> Result<(), Failure>
 fn recover_all(rt: &HostRuntime, book: &str, image: &str, names: &[String]) -> Result<(), Failure> {
     let book = read_book(rt, book)?;
     let image = read_image(rt, image)?;
+    let mut work = zeroed(rt.alloc(), 65536)?;
     let texts = names
         .iter()
         .map(|name| read_file(rt, name.as_str()))
         .try_collect::<Vec<Vec<u8>>>(rt.alloc())?;
     let mut institutes = read_institutes(rt, names, &texts)?;
-    let mut session = Session::new(image, book);
+    let mut session = Session::new(Image::new(&image, &mut work), book);
     run_jobs(rt, &mut session, &mut institutes)?;
     finish_all(rt, &institutes)
 }

@@ -1,0 +1,166 @@
+// One history over each kind of store and over piles of them: the answers are the same.
+use access::{Grant, Kind};
+use book::Book;
+use session::{Deed, Reply, Request, drive};
+use std::alloc::Global;
+use std::process::Abort;
+use std::test::Fail;
+use store::{Store, Unmade, check_size};
+use stores::{Image, Mapped, Plain, Unmapped, check_table};
+
+const FIRST: u16 = 1020;
+
+// Every byte tells its address.
+fn image(heap: Global) -> Result<Vec<u8>, Fail> {
+    let mut image = vec![in heap; 0u8; 65536]?;
+    for (at, byte) in image.iter_mut().enumerate() {
+        *byte = (at % 251) as u8;
+    }
+    Ok(image)
+}
+
+// The same bytes, the last page first.
+fn backwards(heap: Global) -> Result<Vec<u8>, Fail> {
+    let mut image = vec![in heap; 0u8; 65536]?;
+    for (at, byte) in image.iter_mut().enumerate() {
+        *byte = (((63 - at / 1024) * 1024 + at % 1024) % 251) as u8;
+    }
+    Ok(image)
+}
+
+fn identity() -> [u8; 64] {
+    let mut table = [0u8; 64];
+    for (page, place) in (0..64u8).zip(table.iter_mut()) {
+        *place = page;
+    }
+    table
+}
+
+fn reversal() -> [u8; 64] {
+    let mut table = [0u8; 64];
+    for (page, place) in (0..64u8).zip(table.iter_mut()) {
+        *place = 63u8.saturating_sub(page);
+    }
+    table
+}
+
+// A store by another's pages, where the table is one.
+fn mapped<S: Store + Drop>(rt: &impl Abort, below: S, table: [u8; 64]) -> Mapped<S> {
+    match check_table(&table) {
+        Ok(()) => Mapped::new(below, table),
+        Err(_unmapped) => panic!(rt; "a page table"),
+    }
+}
+
+fn plain<'a>(rt: &impl Abort, memory: &'a mut [u8]) -> Plain<'a> {
+    match check_size(memory) {
+        Ok(()) => Plain::new(memory),
+        Err(_unmade) => panic!(rt; "a store's size"),
+    }
+}
+
+fn over_image<'a>(rt: &impl Abort, image: &'a [u8], work: &'a mut [u8]) -> Image<'a> {
+    match (check_size(image), check_size(work)) {
+        (Ok(()), Ok(())) => Image::new(image, work),
+        _ => panic!(rt; "a store's size"),
+    }
+}
+
+// Writes the last bytes of a page and the first of the next one, and copies them with their neighbours.
+fn history(heap: Global) -> Result<Vec<Request>, Fail> {
+    let bay = 1;
+    let grant = Grant {
+        kind: Kind::Write,
+        first: 1000,
+        last: 3000,
+    };
+    let bytes = [1u8, 2, 3, 4].to_vec(heap)?;
+    Ok(vec![in heap;
+        Request {
+            bay,
+            deed: Deed::Open
+        },
+        Request {
+            bay,
+            deed: Deed::Grant(grant)
+        },
+        Request {
+            bay,
+            deed: Deed::Load(FIRST + 2, bytes)
+        },
+        Request {
+            bay,
+            deed: Deed::Copy(FIRST, 8)
+        },
+    ]?)
+}
+
+fn copied<S: Store + Drop>(heap: Global, store: S) -> Result<Vec<u8>, Fail> {
+    let requests = history(heap)?;
+    let replies = drive(heap, store, Book::new(), &requests)?;
+    match replies.last() {
+        Some(Reply::Copied(bytes)) => Ok(bytes.as_slice().to_vec(heap)?),
+        _ => Ok(Vec::new(heap)),
+    }
+}
+
+// 1020 is 4 times 251 and 16.
+const ANSWER: [u8; 8] = [16, 17, 1, 2, 3, 4, 22, 23];
+
+#[test]
+fn over_lent_memory(rt: HostRuntime) -> Result<(), Fail> {
+    let mut memory = image(rt.alloc())?;
+    let bytes = copied(rt.alloc(), plain(&rt, &mut memory))?;
+    assert_eq!(rt; bytes.as_slice(), ANSWER.as_slice());
+    Ok(())
+}
+
+#[test]
+fn over_an_image_that_stays(rt: HostRuntime) -> Result<(), Fail> {
+    let image = image(rt.alloc())?;
+    let mut work = vec![in rt.alloc(); 0u8; 65536]?;
+    let bytes = copied(rt.alloc(), over_image(&rt, &image, &mut work))?;
+    assert_eq!(rt; bytes.as_slice(), ANSWER.as_slice());
+    Ok(())
+}
+
+#[test]
+fn over_pages_in_their_order(rt: HostRuntime) -> Result<(), Fail> {
+    let image = image(rt.alloc())?;
+    let mut work = vec![in rt.alloc(); 0u8; 65536]?;
+    let below = over_image(&rt, &image, &mut work);
+    let bytes = copied(rt.alloc(), mapped(&rt, below, identity()))?;
+    assert_eq!(rt; bytes.as_slice(), ANSWER.as_slice());
+    Ok(())
+}
+
+#[test]
+fn over_pages_the_last_first(rt: HostRuntime) -> Result<(), Fail> {
+    let mut memory = backwards(rt.alloc())?;
+    let below = plain(&rt, &mut memory);
+    let bytes = copied(rt.alloc(), mapped(&rt, below, reversal()))?;
+    assert_eq!(rt; bytes.as_slice(), ANSWER.as_slice());
+    Ok(())
+}
+
+#[test]
+fn over_pages_turned_twice(rt: HostRuntime) -> Result<(), Fail> {
+    let image = image(rt.alloc())?;
+    let mut work = vec![in rt.alloc(); 0u8; 65536]?;
+    let below = mapped(&rt, over_image(&rt, &image, &mut work), reversal());
+    let bytes = copied(rt.alloc(), mapped(&rt, below, reversal()))?;
+    assert_eq!(rt; bytes.as_slice(), ANSWER.as_slice());
+    Ok(())
+}
+
+#[test]
+fn a_check_refuses_what_is_no_store(rt: HostRuntime) -> Result<(), Fail> {
+    let memory = vec![in rt.alloc(); 0u8; 65535]?;
+    assert_eq!(rt; check_size(&memory).map_err(Unmade::number), Err(8));
+    assert_eq!(rt; check_table(&[0; 64]).map_err(Unmapped::number), Err(9));
+    let mut table = identity();
+    table[63] = 64;
+    assert_eq!(rt; check_table(&table).map_err(Unmapped::number), Err(9));
+    assert_eq!(rt; check_table(&reversal()).map_err(Unmapped::number), Ok(()));
+    Ok(())
+}

@@ -1,0 +1,53 @@
+ghost use Rattle.stores.specs.Pages.{new_page, numbered, paged, pages_once};
+ghost use Rattle.std.specs.List.{list_any};
+ghost use Rattle.std.specs.Prelude.{◌≡◌, ◌==◌};
+
+use thiserror::Error;
+
+// Why a table of pages is none.
+#[derive(Clone, Copy, Debug, PartialEq, Eq, Error)]
+pub enum Unmapped {
+    #[error("a page table has each of 0 to 63 once")]
+    Page = 9,
+}
+
+impl Unmapped {
+    pub fn number(self) -> u8
+        ensures { result ≡ Rattle.stores.specs.Pages.number self }
+    {
+        self as u8
+    }
+}
+
+fn stands_among(page: u8, others: &[u8]) -> bool
+    ensures { result ≡ list_any (λ other. other == page) others.now }
+{
+    others.iter().any(|other| *other == page)
+}
+
+// Whether a page number is in range, and none of the others.
+fn is_new(page: u8, others: &[u8]) -> bool
+    ensures { result ≡ new_page page others.now }
+{
+    page < 64 && !stands_among(page, others)
+}
+
+fn is_once(pages: &[u8]) -> bool
+    ensures { result ≡ pages_once pages.now }
+{
+    match pages {
+        [] => true,
+        [page, rest @ ..] => is_new(*page, rest) && is_once(rest),
+    }
+}
+
+// The check before a mapped store is made: refuses a page number out of range or repeated.
+pub fn check_table(table: &[u8; 64]) -> Result<(), Unmapped>
+    ensures { numbered result ≡ paged table.now }
+{
+    if is_once(table) {
+        Ok(())
+    } else {
+        Err(Unmapped::Page)
+    }
+}
