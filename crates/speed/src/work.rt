@@ -1,0 +1,94 @@
+use crate::measure::measure;
+use crate::runs::requests;
+use book::Book;
+use inputs::{
+    Failure, full, parse_job, read_book, read_file, read_image, read_records, words, zeroed,
+};
+use session::Request;
+use stores::{Image, Mapped, Plain, check_table};
+
+fn identity() -> [u8; 64] {
+    let mut table = [0u8; 64];
+    for (page, place) in (0..64u8).zip(table.iter_mut()) {
+        *place = page;
+    }
+    table
+}
+
+// By the plain store's time, in hundredths.
+fn tell(rt: &HostRuntime, kind: &str, micros: u64, plain: u64) -> Result<(), Failure> {
+    let ratio = micros.saturating_mul(100).checked_div(plain).unwrap_or(0);
+    eprintln!(rt; "{kind}: {micros} us, {ratio} hundredths of the plain store's")?;
+    Ok(())
+}
+
+fn over_plain(
+    rt: &HostRuntime,
+    image: &str,
+    book: Book,
+    requests: &[Request],
+) -> Result<u64, Failure> {
+    let mut memory = read_image(rt, image)?;
+    measure(rt, "plain", Plain::new(&mut memory), book, requests)
+}
+
+fn over_image(
+    rt: &HostRuntime,
+    image: &str,
+    book: Book,
+    requests: &[Request],
+) -> Result<u64, Failure> {
+    let image = read_image(rt, image)?;
+    let mut work = zeroed(rt.alloc(), 65536)?;
+    measure(rt, "image", Image::new(&image, &mut work), book, requests)
+}
+
+// Each of the two has the pages in their order, so that the program finds its bytes.
+fn over_pages(
+    rt: &HostRuntime,
+    image: &str,
+    book: Book,
+    requests: &[Request],
+    plain: u64,
+) -> Result<(), Failure> {
+    let table = identity();
+    if check_table(&table).is_ok() {
+        let mut memory = read_image(rt, image)?;
+        let store = Mapped::new(Plain::new(&mut memory), table);
+        let micros = measure(rt, "mapped", store, book, requests)?;
+        tell(rt, "mapped over plain", micros, plain)?;
+        let mut memory = read_image(rt, image)?;
+        let store = Mapped::new(Mapped::new(Plain::new(&mut memory), table), table);
+        let micros = measure(rt, "twice mapped", store, book, requests)?;
+        tell(rt, "mapped over mapped over plain", micros, plain)?;
+    }
+    Ok(())
+}
+
+fn measure_over(
+    rt: &HostRuntime,
+    image: &str,
+    book: Book,
+    requests: &[Request],
+) -> Result<(), Failure> {
+    let plain = over_plain(rt, image, book, requests)?;
+    tell(rt, "plain", plain, plain)?;
+    let micros = over_image(rt, image, book, requests)?;
+    tell(rt, "image", micros, plain)?;
+    over_pages(rt, image, book, requests, plain)
+}
+
+pub fn measure_all(rt: &HostRuntime) -> Result<(), Failure> {
+    let words = words(rt)?;
+    let [book, image, job, runs] = words.as_slice() else {
+        return Err(Failure::Usage("speed BOOK IMAGE JOB RUNS"));
+    };
+    let runs = full(runs.as_str().as_bytes()).ok_or(Failure::Usage("RUNS is a number"))?;
+    let book = read_book(rt, book.as_str())?;
+    let text = read_file(rt, job.as_str())?;
+    let job = parse_job(rt, job.as_str(), &text)?;
+    let records = read_records(rt, &job)?;
+    let record = records.get(..job.input.bytes()).unwrap_or(&[]);
+    let requests = requests(rt.alloc(), &job, record, runs)?;
+    measure_over(rt, image.as_str(), book, &requests)
+}
