@@ -1,3 +1,6 @@
+ghost use Rattle.recover.specs.Records.{asked, record_asks};
+ghost use Rattle.std.specs.Prelude.{◌≡◌, IfOk, map};
+
 use job::{Job, Ran};
 use session::{Deed, Reply, Request, Session};
 use std::alloc::{AllocError, Global};
@@ -5,7 +8,9 @@ use store::Store;
 
 // The calls for a record: it is loaded, registers are set, turns are taken, and what they left is looked at and copied. A turn after a
 // stop takes no step, so all turns are asked for.
-fn requests(heap: Global, job: &Job, counts: &[u8]) -> Result<Vec<Request>, AllocError> {
+fn requests(heap: Global, job: &Job, counts: &[u8]) -> Result<Vec<Request>, AllocError>
+    ensures { IfOk result (λ v. map asked v.items ≡ record_asks job.now counts.now) }
+{
     let bay = job.number;
     let mut requests = vec![in heap;
         Request {
