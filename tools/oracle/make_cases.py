@@ -1098,6 +1098,8 @@ def puts(t):
                       ("BL", "A2"), ("BZ", "B"), ("BI", "B"), ("BITL", "A5"), ("BITL", "B"),
                       ("HRK", "B"), ("BLI", "L"), ("MBS", "A3")):
         t.put(name, fmt, 0, 0)
+    for name, fmt in (("XYZ", "A2"), ("ld", "A2"), ("LDBB", "A1"), ("A1", "A1"), ("LD", "A6"), ("LD", "a2"), ("LD", "A")):
+        t.put(name, fmt, 0, 0)
     t.put("LD", "L", 9, 99999)
     t.put("LDL", "A1", 9, 99999)
     t.put("HRK", "A1", 9, 99999)

@@ -222,6 +222,8 @@ copy 8 4000 21 => bytes 0000000000000000000000DEAD000000000000BEEF
 copy 8 4000 22 => refused 7
 copy 8 6000 1 => bytes 00
 copy 8 6000 65536 => refused 7
+copy 8 6000 65537 => refused 7
+copy 8 6000 4294967295 => refused 7
 
 # set and look in preparation, then sealed
 set 1 4294967295 2147483648 32768 65535 1 40000 65534 1 0 1 0 1 => done

@@ -1,1 +1,2 @@
 mod Grants
+mod Spans

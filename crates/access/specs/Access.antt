@@ -1,5 +1,5 @@
 -- Which bytes a step may reach, and how items of one, two and four bytes are read and claimed.
-use Rattle.std.specs.Prelude.{ℕ, zero, suc, ◌+◌, ◌-◌, ◌%◌, Bool, true, false, cond, ◌&&◌, List, Some, None, Ok, Err, Option, Result, nat_le, slice_index}
+use Rattle.std.specs.Prelude.{ℕ, zero, suc, ◌+◌, ◌-◌, ◌%◌, Bool, true, false, cond, ◌&&◌, List, Some, None, Ok, Err, Option, Result, nat_le, nat_lt, slice_index}
 use Rattle.std.specs.List.{list_any}
 use Rattle.word.specs.Bytes as bytes
 use Rattle.access.specs.declared.bay.Bay.{Bay}
@@ -37,6 +37,14 @@ granted gs w at = list_any (λ g. covers g w at) gs
 -- some grant of the bay has the byte, and is of a kind that lets this be done to it
 abbrev pub allows : Bay → Access → ℕ → Bool
 allows bay w at = granted bay.grants w at
+
+-- one grant has a byte and the next one, and is of a kind that lets this be done to them
+abbrev pub covers_pair : Option Grant → Access → ℕ → Bool
+covers_pair None w at = false
+covers_pair (Some g) w at = (nat_le g.first at && nat_lt at g.last) && permits g.kind w
+
+abbrev pub spans : Bay → Access → ℕ → Bool
+spans bay w at = list_any (λ g. covers_pair g w at) bay.grants
 
 -- each of n bytes, from an address on; past 65,535 there is none
 abbrev pub allows_all : Bay → Access → ℕ → ℕ → Bool

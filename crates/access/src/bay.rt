@@ -1,6 +1,6 @@
 ghost use Rattle.access.specs.Access.{checked, half_may, permits, within};
 ghost use Rattle.access.specs.declared.stop.Access.TheVariants.{Write};
-ghost use Rattle.std.specs.Prelude.{◌≡◌, Some};
+ghost use Rattle.std.specs.Prelude.{◌≡◌, ◌<◌, Some};
 
 use crate::stop::{Access, Denial};
 
@@ -34,6 +34,13 @@ impl Grant {
     {
         (self.first..=self.last).contains(&at) && self.kind.lets(access)
     }
+
+    // The same of the byte and the next.
+    fn covers_pair(&self, access: Access, at: u16) -> bool
+        ensures { result ≡ Rattle.access.specs.Access.covers_pair (Some self.now) access at }
+    {
+        (self.first..self.last).contains(&at) && self.kind.lets(access)
+    }
 }
 
 // A bay is the part of the store that one program may reach: the bytes of its grants, six at most, in fixed memory.
@@ -48,6 +55,13 @@ impl Bay {
         ensures { result ≡ Rattle.access.specs.Access.allows self.now access at }
     {
         self.grants.iter().any(|grant| grant.is_some_and(|grant| grant.covers(access, at)))
+    }
+
+    // Whether one grant has a byte and the next: then neither needs to be asked for alone.
+    pub(crate) fn spans(&self, access: Access, at: u16) -> bool
+        ensures { result ≡ Rattle.access.specs.Access.spans self.now access at }
+    {
+        self.grants.iter().any(|grant| grant.is_some_and(|grant| grant.covers_pair(access, at)))
     }
 
     pub(crate) fn check(&self, access: Access, at: u16) -> Result<(), Denial>
@@ -67,8 +81,12 @@ impl Bay {
     }
 
     pub(crate) fn may_write_pair(&self, at: u16) -> Result<(), Denial>
+        requires { at < 65535 }
         ensures { result ≡ half_may (checked self.now Write) at }
     {
+        if self.spans(Access::Write, at) {
+            return Ok(());
+        }
         self.may_write(at)?;
         self.may_write(at.wrapping_add(1))
     }

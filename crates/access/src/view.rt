@@ -1,5 +1,5 @@
 ghost use Rattle.access.specs.Access.{half_at, item_may, sight_of};
-ghost use Rattle.std.specs.Prelude.{◌≡◌};
+ghost use Rattle.std.specs.Prelude.{◌≡◌, ◌<◌};
 
 use crate::bay::Bay;
 use crate::item::Item;
@@ -38,8 +38,12 @@ impl<'a, S: Store> View<'a, S> {
     }
 
     pub(crate) fn pair(&self, at: u16) -> Result<u16, Denial>
+        requires { at < 65535 }
         ensures { result ≡ half_at (sight_of self.now).look at }
     {
+        if self.bay.spans(Access::Read, at) {
+            return Ok(half_of(self.store.read(at), self.store.read(at + 1)));
+        }
         let high = self.byte(at)?;
         let low = self.byte(at.wrapping_add(1))?;
         Ok(half_of(high, low))

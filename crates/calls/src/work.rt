@@ -22,9 +22,9 @@ fn print_replies(rt: &HostRuntime, replies: &[Reply]) -> Result<(), Failure> {
 }
 
 // Over a store, by the pages of the table if there is one; a table that is refused ends all, with its number.
-fn answer_over<S: Store + Drop>(
+fn answer_over<S: Store>(
     rt: &HostRuntime,
-    store: S,
+    store: &mut S,
     table: Option<Vec<u8>>,
     book: Book,
     requests: &[Request],
@@ -51,7 +51,10 @@ fn with_image(
 ) -> Result<(), Failure> {
     let mut work = zeroed(rt.alloc(), 65536)?;
     match check_size(image) {
-        Ok(()) => answer_over(rt, Image::new(image, &mut work), table, book, requests),
+        Ok(()) => {
+            let mut store = Image::new(image, &mut work);
+            answer_over(rt, &mut store, table, book, requests)
+        }
         Err(unmade) => Ok(println!(rt; "refused {}", unmade.number())?),
     }
 }

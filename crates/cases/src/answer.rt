@@ -1,6 +1,6 @@
 use crate::case::{Case, Run};
 use crate::changes::Changes;
-use book::Book;
+use book::{Book, Unput};
 use code::{Format, Name};
 use std::{io, str};
 use turns::turn;
@@ -43,6 +43,11 @@ fn answer_reading(rt: &HostRuntime, book: &Book, word: u16) -> io::Result<()> {
     println!(rt; "reading {reading}")
 }
 
+fn answer_unput(rt: &HostRuntime, unput: Unput) -> io::Result<()> {
+    let number = unput.number();
+    println!(rt; "put refused {number}")
+}
+
 fn answer_put(
     rt: &HostRuntime,
     book: &Book,
@@ -53,10 +58,7 @@ fn answer_put(
 ) -> io::Result<()> {
     match book.put_together(name, format, m, d) {
         Ok(word) => println!(rt; "put {word:04X}"),
-        Err(unput) => {
-            let number = unput.number();
-            println!(rt; "put refused {number}")
-        }
+        Err(unput) => answer_unput(rt, unput),
     }
 }
 
@@ -67,6 +69,7 @@ impl<'a> Case<'a> {
             Case::Book(text) => answer_book(rt, &text),
             Case::Reading(word) => answer_reading(rt, book, word),
             Case::Put(name, format, m, d) => answer_put(rt, book, name, format, m, d),
+            Case::Unknown => answer_unput(rt, Unput::Unavailable),
         }
     }
 }

@@ -26,6 +26,8 @@ pub enum Case<'a> {
     Book(Vec<u8>),
     Reading(u16),
     Put(Name, Format, i32, i32),
+    // To be put together of a name or a format that is none.
+    Unknown,
 }
 
 fn read_run<'a>(alloc: Global, words: &[&'a [u8]]) -> Result<Run<'a>, Unread> {
@@ -45,6 +47,13 @@ fn read_run<'a>(alloc: Global, words: &[&'a [u8]]) -> Result<Run<'a>, Unread> {
     })
 }
 
+fn read_put<'a>(name: &[u8], format: &[u8], m: i32, d: i32) -> Result<Case<'a>, Unread> {
+    match (Name::try_from(name), Format::try_from(format)) {
+        (Ok(name), Ok(format)) => Ok(Case::Put(name, format, m, d)),
+        _ => Ok(Case::Unknown),
+    }
+}
+
 impl<'a> Case<'a> {
     pub fn read(alloc: Global, line: &'a [u8]) -> Result<Case<'a>, Unread> {
         let words: Vec<&'a [u8]> = line.split(|b| *b == b' ').collect(alloc)?;
@@ -52,12 +61,7 @@ impl<'a> Case<'a> {
             [b"run", words @ ..] => Ok(Case::Run(read_run(alloc, words)?)),
             [b"book", text, ..] => Ok(Case::Book(hex_bytes(alloc, text)?)),
             [b"reading", word, ..] => Ok(Case::Reading(hex_half(word)?)),
-            [b"put", name, format, m, d, ..] => Ok(Case::Put(
-                Name::try_from(*name).map_err(|_| Unread::NoCase)?,
-                Format::try_from(*format).map_err(|_| Unread::NoCase)?,
-                signed(m)?,
-                signed(d)?,
-            )),
+            [b"put", name, format, m, d, ..] => read_put(name, format, signed(m)?, signed(d)?),
             _ => Err(Unread::NoCase),
         }
     }

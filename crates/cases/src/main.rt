@@ -12,8 +12,9 @@ mod values;
 use anyhow::{Context, anyhow, bail};
 use book::Book;
 use case::Case;
+use inputs::read_book;
+use std::env;
 use std::io::Read;
-use std::{env, fs};
 use text::{Line, Lines, Unended};
 use unread::Unread;
 
@@ -24,14 +25,9 @@ fn read_cases(rt: &HostRuntime) -> anyhow::Result<Vec<u8>> {
     Ok(cases)
 }
 
-// Not the reader of `inputs`: of a book that is refused this program says no line and no number.
-fn read_book(rt: &HostRuntime) -> anyhow::Result<Book> {
+fn named_book(rt: &HostRuntime) -> anyhow::Result<Book> {
     let name = env::args(rt)?.nth(1).context("use: cases BOOK < CASES")?;
-    let text = fs::read(rt, name.as_str())?;
-    let mut book = Book::new();
-    book.read(&text)
-        .map_err(|_| anyhow!("the code book is refused"))?;
-    Ok(book)
+    Ok(read_book(rt, name.as_str())?)
 }
 
 // Blank lines and comments say nothing.
@@ -53,7 +49,7 @@ fn unended(_line: Unended) -> anyhow::Error {
 }
 
 fn answer_all(rt: &HostRuntime) -> anyhow::Result<()> {
-    let book = read_book(rt)?;
+    let book = named_book(rt)?;
     let cases = read_cases(rt)?;
     let mut lines = Lines::new(&cases);
     'lines: while let Some(line) = lines.next_line().map_err(unended)? {

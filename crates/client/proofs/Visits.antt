@@ -6,7 +6,7 @@ use Rattle.bays.specs.declared.refusal.Refusal.TheVariants.{Reversed}
 use Rattle.bays.specs.declared.stage.Stage.TheVariants as stage
 use Rattle.book.specs.declared.book.Book.{Book}
 use Rattle.history.specs.Calls.{Answer, call, done, grant, open_bay, own, refused, seal, shared, turn}
-use Rattle.history.specs.Hall.{Hall, Told, apply, new, settle}
+use Rattle.history.specs.Hall.{Hall, Told, apply, new, over, settle}
 use Rattle.client.specs.Visits.{granted}
 use Rattle.session.proofs.Stages as stages
 use Rattle.session.proofs.Stages.{grant_keeps, opened, own_keeps, stage_of}
@@ -24,16 +24,16 @@ sealing m H = apply (call m stage.Preparing (shared seal)) H
 abbrev turning : ℕ → ℕ → Hall → Told
 turning m n H = apply (call m stage.Sealed (own (turn n))) H
 
-pub open_done : (H : Hall) (b : Book) (bs : List ℕ) → H ≡ new b bs → (opening H).answer ≡ done
+pub open_done : (H : Hall) (m : List ℕ) (b : Book) (bs : List ℕ) → H ≡ over m (new b bs) → (opening H).answer ≡ done
 unfolding bay_at
-open_done H b bs e = ap (λ (G : Hall). (opening G).answer) e
+open_done H m b bs e = ap (λ (G : Hall). (opening G).answer) e
 
-pub grant_answer : (g : Grant) (b : Book) (bs : List ℕ) → (granted g (new b bs)).answer ≡ cond (nat_le g.first g.last) done (refused 4)
+pub grant_answer : (g : Grant) (m : List ℕ) (b : Book) (bs : List ℕ) → (granted g (over m (new b bs))).answer ≡ cond (nat_le g.first g.last) done (refused 4)
 unfolding bay_at put_bay
-grant_answer g b bs = by_test (nat_le g.first g.last)
+grant_answer g m b bs = by_test (nat_le g.first g.last)
   where
     H : Hall
-    H = (opening (new b bs)).hall
+    H = (opening (over m (new b bs))).hall
 
     by_test : (t : Bool) → (settle (cond t None (Some Reversed)) 1 (grant g) H).answer ≡ cond t done (refused 4)
     by_test true = refl

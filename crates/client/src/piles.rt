@@ -1,4 +1,5 @@
 // One history over each kind of store and over piles of them: the answers are the same.
+use crate::lending::{drive_image, drive_memory, drive_pages};
 use access::{Grant, Kind};
 use book::Book;
 use session::{Deed, Reply, Request, drive};
@@ -95,9 +96,9 @@ fn history(heap: Global) -> Result<Vec<Request>, Fail> {
     ]?)
 }
 
-fn copied<S: Store + Drop>(heap: Global, store: S) -> Result<Vec<u8>, Fail> {
+fn copied<S: Store + Drop>(heap: Global, mut store: S) -> Result<Vec<u8>, Fail> {
     let requests = history(heap)?;
-    let replies = drive(heap, store, Book::new(), &requests)?;
+    let replies = drive(heap, &mut store, Book::new(), &requests)?;
     match replies.last() {
         Some(Reply::Copied(bytes)) => Ok(bytes.as_slice().to_vec(heap)?),
         _ => Ok(Vec::new(heap)),
@@ -150,6 +151,64 @@ fn over_pages_turned_twice(rt: HostRuntime) -> Result<(), Fail> {
     let below = mapped(&rt, over_image(&rt, &image, &mut work), reversal());
     let bytes = copied(rt.alloc(), mapped(&rt, below, reversal()))?;
     assert_eq!(rt; bytes.as_slice(), ANSWER.as_slice());
+    Ok(())
+}
+
+fn at(memory: &[u8], places: [usize; 4]) -> [u8; 4] {
+    places.map(|place| memory.get(place).copied().unwrap_or(0))
+}
+
+// The grant reaches from 1000 to 3000, and its bytes are zero once the bay is closed.
+#[test]
+fn what_a_lender_gets_back(rt: HostRuntime) -> Result<(), Fail> {
+    let mut memory = image(rt.alloc())?;
+    let requests = history(rt.alloc())?;
+    if check_size(&memory).is_ok() {
+        let replies = drive_memory(rt.alloc(), &mut memory, Book::new(), &requests)?;
+        assert_eq!(rt; replies.len(), 4);
+    }
+    assert_eq!(rt; at(&memory, [999, 1000, 3000, 3001]), [246, 0, 0, 240]);
+    Ok(())
+}
+
+fn pages_copied(
+    rt: &impl Abort,
+    heap: Global,
+    image: &[u8],
+    work: &mut [u8],
+    requests: &[Request],
+) -> Result<[bool; 64], Fail> {
+    match (check_size(image), check_size(work)) {
+        (Ok(()), Ok(())) => Ok(drive_image(heap, image, work, Book::new(), requests)?.0),
+        _ => panic!(rt; "a store's size"),
+    }
+}
+
+// The same of an image, which stays: pages 0 to 2 are copied.
+#[test]
+fn what_a_lender_of_an_image_gets_back(rt: HostRuntime) -> Result<(), Fail> {
+    let image = image(rt.alloc())?;
+    let mut work = vec![in rt.alloc(); 9u8; 65536]?;
+    let requests = history(rt.alloc())?;
+    let copied = pages_copied(&rt, rt.alloc(), &image, &mut work, &requests)?;
+    assert_eq!(rt; &copied[0..4], [true, true, true, false].as_slice());
+    assert_eq!(rt; at(&work, [999, 1000, 3000, 3001]), [246, 0, 0, 240]);
+    assert_eq!(rt; at(&work, [3071, 3072, 65535, 0]), [59, 9, 9, 0]);
+    assert_eq!(rt; at(&image, [999, 1000, 3000, 3001]), [246, 247, 239, 240]);
+    Ok(())
+}
+
+// The last page first: address 1000 lies at 65,512, and 3000 at 63,416.
+#[test]
+fn what_a_lender_of_pages_gets_back(rt: HostRuntime) -> Result<(), Fail> {
+    let mut memory = backwards(rt.alloc())?;
+    let table = reversal();
+    let requests = history(rt.alloc())?;
+    if check_size(&memory).is_ok() && check_table(&table).is_ok() {
+        let replies = drive_pages(rt.alloc(), &mut memory, table, Book::new(), &requests)?;
+        assert_eq!(rt; replies.len(), 4);
+    }
+    assert_eq!(rt; at(&memory, [65511, 65512, 63416, 63417]), [246, 0, 0, 240]);
     Ok(())
 }
 

@@ -1,7 +1,7 @@
 ghost use Rattle.bays.specs.Bays.{bay_at};
 ghost use Rattle.client.specs.Visits.{visited};
 ghost use Rattle.history.specs.Calls.{answered, call, close, shared, stop_told, turned};
-ghost use Rattle.history.specs.Hall.{apply, new};
+ghost use Rattle.history.specs.Hall.{apply, new, over};
 ghost use Rattle.std.specs.Prelude.{◌≡◌, Some};
 
 use access::Grant;
@@ -29,7 +29,7 @@ pub fn visit<S: Store + Drop>(
     grant: Grant,
     budget: u16,
 ) -> Result<Turned, Refusal>
-    ensures { answered (λ t. turned t.steps (stop_told t.stop)) (λ e. e) result ≡ visited grant budget (new book (S.Store.bytes store)) }
+    ensures { answered (λ t. turned t.steps (stop_told t.stop)) (λ e. e) result ≡ visited grant budget (over (S.Store.footing store) (new book (S.Store.bytes store))) }
 {
     let mut hall = Hall::new(store, book);
     let preparing = hall.open(1)?;

@@ -1,7 +1,8 @@
 use crate::compare::{differing, float_differing, in_common};
 use book::Book;
 use inputs::{
-    Failure, assembled, halted, parse_job, read_book, read_file, read_records, run_records, words,
+    Failure, Fault, assembled, halted, parse_job, read_book, read_file, read_records,
+    refuse_partial, run_records, words,
 };
 use job::Job;
 use std::alloc::Global;
@@ -11,6 +12,7 @@ use store::Owned;
 fn results(
     heap: Global,
     book: &Book,
+    name: &str,
     job: &Job,
     store: &mut Owned,
     records: &[u8],
@@ -24,14 +26,14 @@ fn results(
         |ran| if halted(ran) {
             Ok(())
         } else {
-            Err(Failure::Unhalted("a run did not halt"))
+            Err(Failure::of_file(heap, name, Fault::Unhalted))
         },
     )
 }
 
 pub fn demonstrate(rt: &HostRuntime) -> Result<(), Failure> {
     let words = words(rt)?;
-    let [book, listing, calibrate, undo, ..] = words.as_slice() else {
+    let [book, listing, calibrate, undo] = words.as_slice() else {
         return Err(Failure::Usage("demo BOOK LISTING CALIBRATE UNDO"));
     };
     let book = read_book(rt, book.as_str())?;
@@ -40,10 +42,18 @@ pub fn demonstrate(rt: &HostRuntime) -> Result<(), Failure> {
     let text = read_file(rt, calibrate.as_str())?;
     let job = parse_job(rt, calibrate.as_str(), &text)?;
     let counts = read_records(rt, &job)?;
-    let heights = results(rt.alloc(), &book, &job, &mut store, &counts)?;
+    let heights = results(
+        rt.alloc(),
+        &book,
+        calibrate.as_str(),
+        &job,
+        &mut store,
+        &counts,
+    )?;
     let text = read_file(rt, undo.as_str())?;
     let job = parse_job(rt, undo.as_str(), &text)?;
-    let recovered = results(rt.alloc(), &book, &job, &mut store, &heights)?;
+    refuse_partial(rt.alloc(), &job, undo.as_str(), &heights)?;
+    let recovered = results(rt.alloc(), &book, undo.as_str(), &job, &mut store, &heights)?;
     let all = in_common(&counts, &recovered);
     let differ = differing(&counts, &recovered);
     println!(rt; "counts recovered by the shore program: {all}, of which differ: {differ}")?;

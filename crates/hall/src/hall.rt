@@ -1,6 +1,6 @@
 ghost use Rattle.bays.specs.Bays;
-ghost use Rattle.history.specs.Hall.{new};
-ghost use Rattle.history.specs.Laws.{Confinement, Exchange, Isolation, Order};
+ghost use Rattle.history.specs.Hall.{new, over};
+ghost use Rattle.history.specs.Laws.{AnyFooting, Confinement, Exchange, Isolation, Order};
 ghost use Rattle.std.specs.Prelude.{◌≡◌};
 
 use crate::handle::{AtStage, Handle};
@@ -21,24 +21,34 @@ pub struct Hall<S: Store> {
 impl<S: Store> Model for Hall<S> {
     ghost Value = { Rattle.history.specs.Hall.Hall };
 
-    ghost view = { λ h. record { book = h.book; bays = h.table.bays; bytes = S.Store.bytes h.store } };
+    ghost view = { λ h. record { book = h.book; bays = h.table.bays; bytes = S.Store.bytes h.store; footing = S.Store.footing h.store } };
 }
 
 impl<S: Store> Hall<S> {
     // A hall with eight free bays. What is promised here of every history holds of the calls below,
     // whose contracts cite the same definitions.
     pub fn new(store: S, book: Book) -> Hall<S>
-        ensures made { result ≡ new book (S.Store.bytes store) }
+        ensures made { result ≡ over (S.Store.footing store) (new book (S.Store.bytes store)) }
         ensures isolation { Isolation }
         ensures order { Order }
         ensures exchange { Exchange }
         ensures confinement { Confinement }
+        ensures any_footing { AnyFooting }
     {
         Hall {
             store,
             book,
             table: Table::new(),
         }
+    }
+
+    // The store, as the calls left it.
+    pub fn into_store(self) -> S
+        ensures bytes { S.Store.bytes result ≡ self.bytes }
+        ensures footing { S.Store.footing result ≡ self.footing }
+    {
+        let Hall { store, .. } = self;
+        store
     }
 
     // The bay that a handle names, if it is at the handle's stage.

@@ -8,3 +8,4 @@ pub mod Run
 pub mod Words
 pub mod Exchanges
 pub mod Law
+pub mod Footing

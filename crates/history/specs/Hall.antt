@@ -1,5 +1,5 @@
 -- The hall as calls see it, and what each call answers and leaves.
-use Rattle.std.specs.Prelude.{ℕ, cond, ◌&&◌, List, length, replicate, Some, None, Option, nat_le}
+use Rattle.std.specs.Prelude.{ℕ, cond, ◌&&◌, List, [], length, replicate, Some, None, Option, nat_le}
 use Rattle.book.specs.Readings.{reading}
 use Rattle.book.specs.declared.book.Book.{Book}
 use Rattle.store.specs.Bulk.{taken, written}
@@ -25,10 +25,15 @@ pub record Hall : Type 0 where
   pub book : Book
   pub bays : List BayRecord
   pub bytes : List ℕ
+  pub footing : List ℕ
 
 -- a new hall has eight free bays
 abbrev pub new : Book → List ℕ → Hall
-new b bs = record { book = b; bays = replicate 8 free; bytes = bs }
+new b bs = record { book = b; bays = replicate 8 free; bytes = bs; footing = [] }
+
+-- the same hall, with what its store stands on
+abbrev pub over : List ℕ → Hall → Hall
+over m H = record { book = H.book; bays = H.bays; bytes = H.bytes; footing = m }
 
 -- the program in a bay
 pub record Program : Type 0 where
@@ -73,7 +78,7 @@ changed None l k = l
 changed (Some p) l k = put_bay l k (with_program (bay_at l k) p)
 
 abbrev pub settle_own : ℕ → Hall → Outcome → Told
-settle_own k H e = record { answer = e.answer; hall = record { book = H.book; bays = changed e.program H.bays k; bytes = e.bytes } }
+settle_own k H e = record { answer = e.answer; hall = record { book = H.book; bays = changed e.program H.bays k; bytes = e.bytes; footing = H.footing } }
 
 -- a turn goes at the sealed stage only, the others at the handle's
 abbrev pub stage_for : Own → Stage → Stage
@@ -116,7 +121,7 @@ bytes_after seal b bs = bs
 bytes_after close b bs = wiped b.bay.grants 0 bs
 
 abbrev pub perform : ℕ → Shared → Hall → Hall
-perform k o H = record { book = H.book; bays = put_bay H.bays k (bay_after o (bay_at H.bays k)); bytes = bytes_after o (bay_at H.bays k) H.bytes }
+perform k o H = record { book = H.book; bays = put_bay H.bays k (bay_after o (bay_at H.bays k)); bytes = bytes_after o (bay_at H.bays k) H.bytes; footing = H.footing }
 
 -- a refusal alters nothing
 abbrev pub settle : Option Refusal → ℕ → Shared → Hall → Told

@@ -2,8 +2,8 @@
 use Rattle.std.specs.Prelude.{◌≡◌, ℕ, false, T, List, length, slice_index}
 use Rattle.book.specs.declared.book.Book.{Book}
 use Rattle.history.specs.Calls.{Call}
-use Rattle.history.specs.Hall.{new}
-use Rattle.history.specs.History.{Exchanged, Rearranged, after, granted, granted_write, heard, struck, under_write}
+use Rattle.history.specs.Hall.{Hall, new, over}
+use Rattle.history.specs.History.{Exchanged, Rearranged, after, answers, granted, granted_write, heard, struck, under_write}
 
 -- a bay's answers depend on its own calls and granted bytes alone: two histories that leave the same list when the
 -- other bays' loads, sets, turns, looks and copies are struck out, over stores that agree on the bytes granted to it
@@ -33,3 +33,9 @@ Confinement =
     × ((k : ℕ) → T (granted_write k at h (new b s))
     → ((j : ℕ) → T (under_write j at false h (new b s)) → ⊥)
     → slice_index (after h (new b s)).bytes at ≡ 0)
+
+-- what the store stands on matters to no call, and no call changes it
+abbrev pub AnyFooting : Type 0
+AnyFooting =
+    (m : List ℕ) (h : List Call) (H : Hall)
+    → (answers h (over m H) ≡ answers h H) × (after h (over m H) ≡ over m (after h H))

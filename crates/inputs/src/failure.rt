@@ -42,6 +42,8 @@ pub enum Fault {
         last: u16,
         refusal: Refusal,
     },
+    #[error("a run did not halt")]
+    Unhalted,
     // An output file that is there already, by what the program calls it.
     #[error("{0} exists already, and is not overwritten")]
     Exists(&'static str),

@@ -60,15 +60,19 @@ pub fn assembled(heap: Global, book: &Book, name: &str, text: &[u8]) -> Result<O
     Ok(store)
 }
 
-// The records, which must be whole.
-pub fn read_records(rt: &HostRuntime, job: &Job) -> Result<Vec<u8>, Failure> {
-    let records = read_file(rt, job.records)?;
+// Refuses what is no whole number of the job's records.
+pub fn refuse_partial(heap: Global, job: &Job, name: &str, records: &[u8]) -> Result<(), Failure> {
     let bytes = records.len();
     let size = job.input.bytes();
     if bytes.checked_rem(size) != Some(0) {
-        let fault = Fault::Records { bytes, size };
-        return Err(Failure::of_file(rt.alloc(), job.records, fault));
+        return Err(Failure::of_file(heap, name, Fault::Records { bytes, size }));
     }
+    Ok(())
+}
+
+pub fn read_records(rt: &HostRuntime, job: &Job) -> Result<Vec<u8>, Failure> {
+    let records = read_file(rt, job.records)?;
+    refuse_partial(rt.alloc(), job, job.records, &records)?;
     Ok(records)
 }
 

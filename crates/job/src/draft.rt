@@ -29,15 +29,15 @@ fn once<T: Drop>(slot: &mut Option<T>, value: T) -> Result<(), Fault> {
 }
 
 impl<'a> Draft<'a> {
-    // One grant more, or a refusal.
+    // One grant more, or a refusal, in the order in which a hall refuses.
     fn add_grant(&mut self, grant: Grant) -> Result<(), Fault> {
         if grant.last < grant.first {
             return Err(Fault::Reversed);
         }
+        let place = first_vacant(&self.grants).ok_or(Fault::SeventhGrant)?;
         if clash_with_any(grant, &self.grants) {
             return Err(Fault::Clash);
         }
-        let place = first_vacant(&self.grants).ok_or(Fault::SeventhGrant)?;
         self.grants[place] = Some(grant);
         Ok(())
     }

@@ -16,6 +16,8 @@ pub enum Fault {
     Fields,
     #[error("not a number, or out of range")]
     Number,
+    #[error("a grant of another kind than read or write")]
+    Kind,
     #[error("a file name that is empty or not UTF-8")]
     Text,
     #[error("this entry stands twice")]

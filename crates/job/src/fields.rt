@@ -40,7 +40,8 @@ fn kind(field: Option<&[u8]>) -> Result<Kind, Fault> {
     match field {
         Some(b"read") => Ok(Kind::Read),
         Some(b"write") => Ok(Kind::Write),
-        _ => Err(Fault::Fields),
+        Some(_) => Err(Fault::Kind),
+        None => Err(Fault::Fields),
     }
 }
 

@@ -19,9 +19,9 @@ pub enum Fault {
     Past,
     #[error("not the words of such a line (NAME FORMAT M D, word HHHH, halfwords N ..)")]
     Words,
-    #[error("no such name")]
+    #[error("refused with 21: no such name")]
     Name,
-    #[error("no such format (A1, A2, A3, A4, A5, L, B)")]
+    #[error("refused with 21: no such format (A1, A2, A3, A4, A5, L, B)")]
     Format,
     #[error("not a number, or out of range")]
     Number,

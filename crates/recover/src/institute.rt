@@ -16,7 +16,10 @@ impl<'a> Institute<'a> {
     // By the text of its job; a results file that is there already is refused.
     pub fn read(rt: &HostRuntime, name: &'a str, text: &'a [u8]) -> Result<Institute<'a>, Failure> {
         let job = parse_job(rt, name, text)?;
-        refuse_existing(rt, job.results, "the results file")?;
+        refuse_existing(rt, job.results, "the results file").map_err(|e| e.about(
+            rt.alloc(),
+            job.results,
+        ))?;
         let records = read_records(rt, &job)?;
         Ok(Institute {
             name,

@@ -10,8 +10,21 @@ use stores::Image;
 // A job for each bay.
 const MOST_JOBS: usize = 8;
 
-// What came of a job; its results are written if every run halted.
-fn finish(rt: &HostRuntime, institute: &Institute) -> io::Result<()> {
+// The results of a job are kept if every run halted.
+fn keep(rt: &HostRuntime, institute: &Institute) -> Result<(), Failure> {
+    if !institute.tally.all_halted() {
+        return Ok(());
+    }
+    let file = institute.job.results;
+    write_new(rt, file, &institute.results).map_err(|e| Failure::of_file(
+        rt.alloc(),
+        file,
+        Fault::System(e),
+    ))
+}
+
+// What came of a job.
+fn tell(rt: &HostRuntime, institute: &Institute) -> io::Result<()> {
     let Institute {
         name,
         job,
@@ -21,7 +34,6 @@ fn finish(rt: &HostRuntime, institute: &Institute) -> io::Result<()> {
     } = institute;
     println!(rt; "job {name} in bay {}\n{tally}", job.number)?;
     if tally.all_halted() {
-        write_new(rt, job.results, results)?;
         println!(rt; "results {}, {} bytes", job.results, results.len())?;
     }
     Ok(())
@@ -59,7 +71,10 @@ fn run_jobs(
 
 fn finish_all(rt: &HostRuntime, institutes: &[Institute]) -> Result<(), Failure> {
     for institute in institutes {
-        finish(rt, institute)?;
+        keep(rt, institute)?;
+    }
+    for institute in institutes {
+        tell(rt, institute)?;
     }
     if institutes
         .iter()

@@ -13,7 +13,7 @@ use Rattle.history.proofs.Basics.{by_test}
 use Rattle.history.specs.Calls.{Act, Own, Shared, call, close, copy, grant, load, look, open_bay, own, refused, seal, set_all, shared, turn}
 use Rattle.history.specs.Hall.{Hall, Outcome, Program, Told, apply, changed, outcome, program_of, settle, settle_own, stage_for, verdict}
 use Rattle.session.proofs.Stages.{closed, others_keep, stage_of}
-use Rattle.session.specs.Serve.{Fits, Made, all_fit, fits, fits_from, fitting, serve, served}
+use Rattle.session.specs.Serve.{Fits, Made, all_fit, closed_to, fits, fits_from, fitting, serve, served}
 use Rattle.session.specs.declared.request.Reply.{Reply}
 use Rattle.session.specs.declared.slot.Slot.{Slot}
 use Rattle.session.specs.declared.slot.Slot.TheVariants.{Empty, Preparing, Sealed}
@@ -192,3 +192,10 @@ one_more_empty (s ∷ ss) zero h k zero l = refl
 one_more_empty (s ∷ ss) zero h k (suc i) l = absurd (omega arith)
 one_more_empty (s ∷ ss) (suc p) h k zero l = k zero (omega arith)
 one_more_empty (s ∷ ss) (suc p) h k (suc i) l = one_more_empty ss p (omega arith) (λ j m. k (suc j) (omega arith)) i (omega arith)
+
+-- one bay more is closed
+pub closed_on : (p : ℕ) (G H K : Hall) → H ≡ closed_to p G → K ≡ (serve (p + 1) (shared close) H).hall → K ≡ closed_to (p + 1) G
+unfolding closed_to
+closed_on p G H K e f =
+    let q : p + 1 ≡ suc p = omega arith in
+    f ∙ ap (λ (X : Hall). (serve (p + 1) (shared close) X).hall) e ∙ ap (λ (n : ℕ). (serve n (shared close) (closed_to p G)).hall) q ∙ sym (ap (λ (n : ℕ). closed_to n G) q)

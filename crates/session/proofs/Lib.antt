@@ -1,3 +1,4 @@
 pub mod Fitting
+pub mod Footing
 pub mod Replies
 pub mod Stages

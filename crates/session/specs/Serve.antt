@@ -1,5 +1,5 @@
 -- What a list of requests is answered by one who keeps the handles.
-use Rattle.std.specs.Prelude.{◌≡◌, ℕ, suc, Bool, true, ◌&&◌, List, [], ◌∷◌, length, Some, None, Ok, Err, vec_items, Option, Result, ◌==◌}
+use Rattle.std.specs.Prelude.{◌≡◌, ℕ, zero, suc, Bool, true, ◌&&◌, List, [], ◌∷◌, length, Some, None, Ok, Err, vec_items, Option, Result, ◌==◌}
 use Rattle.bays.specs.Bays.{bay_at}
 use Rattle.bays.specs.Refusals.{number}
 use Rattle.bays.specs.Stages.{at_stage, is_free}
@@ -10,6 +10,7 @@ use Rattle.bays.specs.declared.stage.Stage.TheVariants as stage
 use Rattle.hall.specs.declared.shown.Shown.{Shown as Look}
 use Rattle.history.specs.Calls.{Act, Answer, Call, answered, call, close, copied, copy, done, grant, load, look, open_bay, own, refused, seal, set_all, shared, shown, stop_told, turn, turned}
 use Rattle.history.specs.Hall.{Hall, Told, apply}
+use Rattle.history.specs.History.{after}
 use Rattle.session.specs.declared.request.Deed.{Deed}
 use Rattle.session.specs.declared.request.Deed.TheVariants.{Open, Grant, Seal, Close, Set, Turn, Look as LookAt, Load, Copy}
 use Rattle.session.specs.declared.request.Reply.{Reply}
@@ -127,3 +128,16 @@ all_fit l ss = (length l == 8 && length ss == 8) && fits_from l 1 ss
 abbrev pub Made : {E : Type 0} → Result Reply E → Hall → Hall → Served → Type 0
 Made (Ok r) H K s = (said r ≡ s.reply) × (K ≡ s.hall)
 Made (Err e) H K s = K ≡ H
+
+-- the hall after the handles of the bays 1, 2, .. are given to close
+unfoldable pub closed_to : ℕ → Hall → Hall
+closed_to zero H = H
+closed_to (suc n) H = (serve (suc n) (shared close) (closed_to n H)).hall
+
+-- the hall at the end of a session
+abbrev pub left : Hall → Hall
+left H = closed_to 8 H
+
+-- the hall after all that is requested, at the end of the session
+abbrev pub driven : List Request → Hall → Hall
+driven qs H = left (after (history qs H) H)

@@ -181,6 +181,9 @@ fn look_in<S: Store>(hall: &mut Hall<S>, number: u8, slot: Slot) -> (Slot, Reply
     }
 }
 
+// More bytes than a store has, which no bay is granted: a longer buffer would be refused as one of so many is.
+const TOO_MANY: usize = 65537;
+
 // So many bytes, in a buffer of their own.
 fn copy_with<S: Store, K: AtStage>(
     heap: Global,
@@ -191,7 +194,7 @@ fn copy_with<S: Store, K: AtStage>(
 ) -> Result<Reply, AllocError>
     ensures made { Made result hall.now hall.now (served (Some K.STAGE) handle.now.bay (own (copy address length)) hall.now) }
 {
-    let mut buffer = vec![in heap; 0u8; length]?;
+    let mut buffer = vec![in heap; 0u8; length.min(TOO_MANY)]?;
     match hall.copy(handle, address, &mut buffer) {
         Ok(()) => Ok(Reply::Copied(buffer)),
         Err(refusal) => Ok(Reply::Refused(refusal)),

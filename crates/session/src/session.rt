@@ -1,10 +1,10 @@
-ghost use Rattle.history.specs.Hall.{new};
+ghost use Rattle.history.specs.Hall.{new, over};
 ghost use Rattle.history.specs.History.{after, answers};
-ghost use Rattle.session.specs.Serve.{Made, act_of, history, replies, said, serve, spoken};
+ghost use Rattle.session.specs.Serve.{Made, act_of, history, left, replies, said, serve, spoken};
 ghost use Rattle.std.specs.Prelude.{◌≡◌, IfOk, OnOk, map};
 
 use crate::acting::act_in;
-use crate::closing::release_all;
+use crate::closing::leave;
 use crate::request::{Reply, Request};
 use crate::slot::{Slot, put, take};
 use book::Book;
@@ -34,26 +34,14 @@ impl<S: Store + Drop> Model for Session<S> {
 
 impl<S: Store + Drop> Drop for Session<S> {
     fn drop(self) {
-        let Session {
-            mut hall,
-            mut slots,
-        } = self;
-        release_all(&mut hall, &mut slots);
-        let [a, b, c, d, e, f, g, h] = slots;
-        a.discard();
-        b.discard();
-        c.discard();
-        d.discard();
-        e.discard();
-        f.discard();
-        g.discard();
-        h.discard();
+        let Session { mut hall, slots } = self;
+        leave(&mut hall, slots);
     }
 }
 
 impl<S: Store + Drop> Session<S> {
     pub fn new(store: S, book: Book) -> Session<S>
-        ensures { result ≡ new book (S.Store.bytes store) }
+        ensures { result ≡ over (S.Store.footing store) (new book (S.Store.bytes store)) }
     {
         Session {
             hall: Hall::new(store, book),
@@ -102,5 +90,15 @@ impl<S: Store + Drop> Session<S> {
             replies.push(self.serve(heap, request)?)?;
         }
         Ok(replies)
+    }
+
+    // Closes the bays that are not free, and gives the store back.
+    pub fn finish(self) -> S
+        ensures bytes { S.Store.bytes result ≡ (left self).bytes }
+        ensures footing { S.Store.footing result ≡ (left self).footing }
+    {
+        let Session { mut hall, slots } = self;
+        leave(&mut hall, slots);
+        hall.into_store()
     }
 }

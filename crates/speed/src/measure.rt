@@ -6,10 +6,10 @@ use std::time::Instant;
 use store::Store;
 
 // Drives the requests over a store; its steps are a result, and its time is told beside.
-pub fn measure<S: Store + Drop>(
+pub fn measure<S: Store>(
     rt: &HostRuntime,
     kind: &str,
-    store: S,
+    store: &mut S,
     book: Book,
     requests: &[Request],
 ) -> Result<u64, Failure> {

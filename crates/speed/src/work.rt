@@ -7,6 +7,10 @@ use inputs::{
 use session::Request;
 use stores::{Image, Mapped, Plain, check_table};
 
+const MAPPED: &str = "mapped over plain";
+
+const TWICE_MAPPED: &str = "mapped over mapped over plain";
+
 fn identity() -> [u8; 64] {
     let mut table = [0u8; 64];
     for (page, place) in (0..64u8).zip(table.iter_mut()) {
@@ -29,7 +33,8 @@ fn over_plain(
     requests: &[Request],
 ) -> Result<u64, Failure> {
     let mut memory = read_image(rt, image)?;
-    measure(rt, "plain", Plain::new(&mut memory), book, requests)
+    let mut store = Plain::new(&mut memory);
+    measure(rt, "plain", &mut store, book, requests)
 }
 
 fn over_image(
@@ -40,7 +45,8 @@ fn over_image(
 ) -> Result<u64, Failure> {
     let image = read_image(rt, image)?;
     let mut work = zeroed(rt.alloc(), 65536)?;
-    measure(rt, "image", Image::new(&image, &mut work), book, requests)
+    let mut store = Image::new(&image, &mut work);
+    measure(rt, "image", &mut store, book, requests)
 }
 
 // Each of the two has the pages in their order, so that the program finds its bytes.
@@ -54,13 +60,13 @@ fn over_pages(
     let table = identity();
     if check_table(&table).is_ok() {
         let mut memory = read_image(rt, image)?;
-        let store = Mapped::new(Plain::new(&mut memory), table);
-        let micros = measure(rt, "mapped", store, book, requests)?;
-        tell(rt, "mapped over plain", micros, plain)?;
+        let mut store = Mapped::new(Plain::new(&mut memory), table);
+        let micros = measure(rt, MAPPED, &mut store, book, requests)?;
+        tell(rt, MAPPED, micros, plain)?;
         let mut memory = read_image(rt, image)?;
-        let store = Mapped::new(Mapped::new(Plain::new(&mut memory), table), table);
-        let micros = measure(rt, "twice mapped", store, book, requests)?;
-        tell(rt, "mapped over mapped over plain", micros, plain)?;
+        let mut store = Mapped::new(Mapped::new(Plain::new(&mut memory), table), table);
+        let micros = measure(rt, TWICE_MAPPED, &mut store, book, requests)?;
+        tell(rt, TWICE_MAPPED, micros, plain)?;
     }
     Ok(())
 }
@@ -83,7 +89,9 @@ pub fn measure_all(rt: &HostRuntime) -> Result<(), Failure> {
     let [book, image, job, runs] = words.as_slice() else {
         return Err(Failure::Usage("speed BOOK IMAGE JOB RUNS"));
     };
-    let runs = full(runs.as_str().as_bytes()).ok_or(Failure::Usage("RUNS is a number"))?;
+    let runs = full(runs.as_str().as_bytes()).ok_or(Failure::Usage(
+        "speed BOOK IMAGE JOB RUNS (RUNS 0 to 4294967295)",
+    ))?;
     let book = read_book(rt, book.as_str())?;
     let text = read_file(rt, job.as_str())?;
     let job = parse_job(rt, job.as_str(), &text)?;

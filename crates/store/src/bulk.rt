@@ -9,7 +9,8 @@ use std::alloc::AllocError;
 
 // Bytes into a store, from an address on.
 pub fn write_all<S: Store>(store: &mut S, address: u16, bytes: &[u8])
-    ensures { S.Store.bytes store.new ≡ written (S.Store.bytes store.old) address bytes.now }
+    ensures bytes { S.Store.bytes store.new ≡ written (S.Store.bytes store.old) address bytes.now }
+    ensures footing { S.Store.footing store.new ≡ S.Store.footing store.old }
 {
     let mut to = address;
     for byte in bytes {

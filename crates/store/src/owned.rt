@@ -1,5 +1,5 @@
 ghost use Rattle.std.proofs.Common.{sym, ◌∙◌};
-ghost use Rattle.std.specs.Prelude.{◌≡◌, vec_len};
+ghost use Rattle.std.specs.Prelude.{◌≡◌, [], vec_len};
 
 use crate::store::Store;
 
@@ -22,6 +22,8 @@ impl Owned {
 
 impl Store for Owned {
     ghost bytes = { λ s. s.held.items };
+
+    ghost footing = { λ s. [] };
 
     ghost full = { λ s. sym s.held.ok.0 ∙ s.full };
 

@@ -4,11 +4,15 @@ ghost use Rattle.std.specs.Prelude.{◌≡◌, ℕ, List, length, slice_index, s
 pub trait Store {
     ghost bytes: { Self → List ℕ };
 
+    // What it stands on, which no write alters: the names of the references that it was lent, an image, a table of pages.
+    ghost footing: { Self → List ℕ };
+
     fn read(&self, address: u16) -> u8
         ensures { result ≡ slice_index (bytes self.now) address };
 
     fn write(&mut self, address: u16, byte: u8)
-        ensures { bytes self.new ≡ slice_set (bytes self.old) address byte };
+        ensures bytes { bytes self.new ≡ slice_set (bytes self.old) address byte }
+        ensures footing { footing self.new ≡ footing self.old };
 
     ghost full: { (store : Self) → length (bytes store) ≡ 65536 };
 }

@@ -1,5 +1,5 @@
 ghost use Rattle.stores.specs.Pages.{length_tabulate, mapped, pages_once, place};
-ghost use Rattle.std.specs.Prelude.{◌≡◌, ◌/◌, ◌<◌, length, slice_index, true};
+ghost use Rattle.std.specs.Prelude.{◌≡◌, ◌++◌, ◌/◌, ◌<◌, length, slice_index, true};
 
 use store::Store;
 
@@ -22,6 +22,14 @@ impl<S: Store> Mapped<S> {
         Mapped { below, table }
     }
 
+    // The store below, as it is by then.
+    pub fn release(self) -> S
+        ensures { result ≡ self.below }
+    {
+        let Mapped { below, table: _ } = self;
+        below
+    }
+
     // The page below that the page of an address is.
     fn page_at(&self, address: u16) -> u16
         ensures is { result ≡ slice_index self.now.table (address / 1024) }
@@ -40,6 +48,8 @@ impl<S: Store> Mapped<S> {
 
 impl<S: Store> Store for Mapped<S> {
     ghost bytes = { λ s. mapped s.table (S.Store.bytes s.below) };
+
+    ghost footing = { λ s. s.table ++ S.Store.footing s.below };
 
     ghost full = { λ s. length_tabulate 65536 (λ at. slice_index (S.Store.bytes s.below) (place s.table at)) };
 

@@ -76,7 +76,8 @@ fn attempt<S: Store>(book: &Book, r: Registers, store: &S, bay: &Bay) -> Result<
 }
 
 fn write_half<S: Store>(store: &mut S, at: u16, value: u16)
-    ensures { S.Store.bytes store.new ≡ half_into (S.Store.bytes store.old) at value }
+    ensures bytes { S.Store.bytes store.new ≡ half_into (S.Store.bytes store.old) at value }
+    ensures footing { S.Store.footing store.new ≡ S.Store.footing store.old }
 {
     let [high, low] = value.to_be_bytes();
     store.write(at, high);
@@ -84,7 +85,8 @@ fn write_half<S: Store>(store: &mut S, at: u16, value: u16)
 }
 
 fn commit<S: Store>(store: &mut S, pending: Option<Pending>)
-    ensures { S.Store.bytes store.new ≡ committed (S.Store.bytes store.old) pending }
+    ensures bytes { S.Store.bytes store.new ≡ committed (S.Store.bytes store.old) pending }
+    ensures footing { S.Store.footing store.new ≡ S.Store.footing store.old }
 {
     match pending {
         None => {}
@@ -109,6 +111,7 @@ pub(crate) fn obey_next<S: Store>(
     ensures answers { result ≡ answer (stepped (reading book.now.tables) registers.old (sight bay.now (S.Store.bytes store.old))) }
     ensures registers { registers.new ≡ registers_after registers.old (stepped (reading book.now.tables) registers.old (sight bay.now (S.Store.bytes store.old))) }
     ensures bytes { S.Store.bytes store.new ≡ bytes_after (S.Store.bytes store.old) (stepped (reading book.now.tables) registers.old (sight bay.now (S.Store.bytes store.old))) }
+    ensures footing { S.Store.footing store.new ≡ S.Store.footing store.old }
 {
     let effect = attempt(book, *registers, store, bay)?;
     *registers = effect.registers;
@@ -127,6 +130,7 @@ pub fn step<S: Store>(
     ensures numbers { told_of result ≡ told_of (answer (stepped (reading book.now.tables) registers.old (sight bay.now (S.Store.bytes store.old)))) }
     ensures registers { registers.new ≡ registers_after registers.old (stepped (reading book.now.tables) registers.old (sight bay.now (S.Store.bytes store.old))) }
     ensures bytes { S.Store.bytes store.new ≡ bytes_after (S.Store.bytes store.old) (stepped (reading book.now.tables) registers.old (sight bay.now (S.Store.bytes store.old))) }
+    ensures footing { S.Store.footing store.new ≡ S.Store.footing store.old }
     ensures stop_alters_nothing { Unaltered result registers.old registers.new (S.Store.bytes store.old) (S.Store.bytes store.new) }
     ensures writes_its_operand { Only (operand_granted (reading book.now.tables) bay.now registers.old (S.Store.bytes store.old)) (S.Store.bytes store.old) (S.Store.bytes store.new) }
     ensures reads_granted_bytes { Local }

@@ -43,7 +43,8 @@ fn run_steps<S: Store>(
     bay: &Bay,
     budget: u16,
 ) -> Turned
-    ensures { ◌≡◌ {A = Run} (record { registers = registers.new; bytes = S.Store.bytes store.new; turned = result }) (run (reading book.now.tables) bay.now budget 0 registers.old (S.Store.bytes store.old)) }
+    ensures runs { ◌≡◌ {A = Run} (record { registers = registers.new; bytes = S.Store.bytes store.new; turned = result }) (run (reading book.now.tables) bay.now budget 0 registers.old (S.Store.bytes store.old)) }
+    ensures footing { S.Store.footing store.new ≡ S.Store.footing store.old }
 {
     for steps in 0..budget {
         if let Err(stop) = obey_next(book, registers, store, bay) {
@@ -62,6 +63,7 @@ pub fn turn<S: Store>(
     budget: u16,
 ) -> Turned
     ensures runs { ◌≡◌ {A = Run} (record { registers = registers.new; bytes = S.Store.bytes store.new; turned = result }) (run (reading book.now.tables) bay.now budget 0 registers.old (S.Store.bytes store.old)) }
+    ensures footing { S.Store.footing store.new ≡ S.Store.footing store.old }
     ensures turns_join { Split }
     ensures moves_byte_strings { MovesBytes }
     ensures moves_halfword_strings { MovesHalfwords }

@@ -1,11 +1,11 @@
 use Rattle.std.proofs.Common.{ℕ, List, nat_le, ap, ◌∙◌}
-use Rattle.history.specs.Hall.{Told, new}
+use Rattle.history.specs.Hall.{Told, new, over}
 use Rattle.client.proofs.Visits.{grant_answer, not_granted, open_done, prepared, seal_done, told_grant, turned_stage}
 use Rattle.client.proofs.visiting.visit.Goals as goal
 
 pub returns-in_err-preparing : goal.returns-in_err-preparing
 returns-in_err-preparing g c =
-    let z = c.in_err-preparing.ensures.answer ∙ open_done c.new-hall.result c.args.book (g.S.Store.bytes c.args.store) c.new-hall.ensures.made in
+    let z = c.in_err-preparing.ensures.answer ∙ open_done c.new-hall.result (g.S.Store.footing c.args.store) c.args.book (g.S.Store.bytes c.args.store) c.new-hall.ensures.made in
     cc
 
 pub leave-requires : goal.leave-requires
@@ -16,9 +16,10 @@ leave-requires g c =
 pub returns-in-Err : goal.returns-in-Err
 returns-in-Err g c =
     let bs : List ℕ = g.S.Store.bytes c.args.store in
+    let m : List ℕ = g.S.Store.footing c.args.store in
     let e = c.in_ok-preparing.ensures in
-    let t = told_grant c.in_ok-preparing.preparing.bay (new c.args.book bs) c.new-hall.result c.open.new.self c.args.grant e.named c.new-hall.ensures.made e.after in
-    not_granted (nat_le c.args.grant.first c.args.grant.last) _ _ (c.in-Err.ensures.answer ∙ ap (λ (x : Told). x.answer) t ∙ grant_answer c.args.grant c.args.book bs)
+    let t = told_grant c.in_ok-preparing.preparing.bay (over m (new c.args.book bs)) c.new-hall.result c.open.new.self c.args.grant e.named c.new-hall.ensures.made e.after in
+    not_granted (nat_le c.args.grant.first c.args.grant.last) _ _ (c.in-Err.ensures.answer ∙ ap (λ (x : Told). x.answer) t ∙ grant_answer c.args.grant m c.args.book bs)
 
 pub unreachable-requires : goal.unreachable-requires
 unreachable-requires g c =

@@ -1,4 +1,4 @@
-use Rattle.std.proofs.Common.{◌≡◌, ℕ, ◌+◌, ◌%◌, List, get_or, drop, set}
+use Rattle.std.proofs.Common.{◌≡◌, ◌∙◌, ℕ, ◌+◌, ◌%◌, List, get_or, drop, set}
 use Rattle.std.proofs.lemmas.List.{at_drop_more}
 use Rattle.store.specs.Bulk.{written}
 use Rattle.store.proofs.bulk.write_all.Goals as goal
@@ -9,6 +9,6 @@ loop-byte-preserved g c =
     let vs : List ℕ = c.args.bytes.now in
     let e : written bs c.loop-byte.to (drop c.loop-byte.byte-index vs) ≡ written (set bs c.loop-byte.to (get_or vs c.loop-byte.byte-index 0)) ((c.loop-byte.to + 1) % 65536) (drop (c.loop-byte.byte-index + 1) vs)
     = at_drop_more (written bs c.loop-byte.to) vs c.loop-byte.byte-index 0 c.loop-byte-test.true in
-    let w = c.write.ensures in
-    let i = c.loop-byte.invariant in
-    cc
+    let w = c.write.ensures.bytes in
+    let i = c.loop-byte.invariant.0 in
+    (cc, c.write.ensures.footing ∙ c.loop-byte.invariant.1)

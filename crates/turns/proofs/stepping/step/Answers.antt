@@ -19,6 +19,7 @@ returns g c =
       numbers = ap told_of e.answers;
       registers = e.registers;
       bytes = e.bytes;
+      footing = e.footing;
       stop_alters_nothing = unaltered _ _ _ _ _ _ e.answers e.registers e.bytes;
       writes_its_operand = subst (Only (operand_granted reads bay r bs) bs) (sym e.bytes) (step_writes reads bay bs r);
       reads_granted_bytes = local;

@@ -1,4 +1,4 @@
-use Rattle.std.proofs.Common.{◌<◌, ◌/◌, arith, rules}
+use Rattle.std.proofs.Common.{◌/◌, arith, rules}
 use Rattle.stores.proofs.Pages.{small_of}
 use Rattle.stores.proofs.mapped.Mapped.page_at.Goals as goal
 
