@@ -22,19 +22,23 @@ fn print_replies(rt: &HostRuntime, replies: &[Reply]) -> Result<(), Failure> {
 }
 
 // Over a store, by the pages of the table if there is one; a table that is refused ends all, with its number.
-fn answer_over<S: Store>(
+fn answer_over<S: Store + Drop>(
     rt: &HostRuntime,
-    store: &mut S,
+    mut store: S,
     table: Option<Vec<u8>>,
     book: Book,
     requests: &[Request],
 ) -> Result<(), Failure> {
     let Some(text) = table else {
-        return print_replies(rt, &drive(rt.alloc(), store, book, requests)?);
+        let (_store, replies) = drive(rt.alloc(), store, book, requests)?;
+        return print_replies(rt, &replies);
     };
     match read_table(&text) {
         Ok(table) => match check_table(&table) {
-            Ok(()) => print_replies(rt, &drive_mapped(rt.alloc(), store, table, book, requests)?),
+            Ok(()) => print_replies(
+                rt,
+                &drive_mapped(rt.alloc(), &mut store, table, book, requests)?,
+            ),
             Err(unmapped) => Ok(println!(rt; "refused {}", unmapped.number())?),
         },
         Err(unmapped) => Ok(println!(rt; "refused {}", unmapped.number())?),
@@ -51,10 +55,7 @@ fn with_image(
 ) -> Result<(), Failure> {
     let mut work = zeroed(rt.alloc(), 65536)?;
     match check_size(image) {
-        Ok(()) => {
-            let mut store = Image::new(image, &mut work);
-            answer_over(rt, &mut store, table, book, requests)
-        }
+        Ok(()) => answer_over(rt, Image::new(image, &mut work), table, book, requests),
         Err(unmade) => Ok(println!(rt; "refused {}", unmade.number())?),
     }
 }

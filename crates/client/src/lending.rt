@@ -6,7 +6,7 @@ ghost use Rattle.stores.specs.Pages.{imaged, mapped, pages_once};
 ghost use Rattle.std.specs.Prelude.{◌≡◌, IfOk, OnOk, length, map, true};
 
 use book::Book;
-use session::{Reply, Request, drive, drive_mapped};
+use session::{Reply, Request, drive_lent, drive_mapped};
 use std::alloc::{AllocError, Global};
 use stores::{Image, Plain};
 
@@ -22,7 +22,7 @@ pub fn drive_memory(
     ensures memory { OnOk result (memory.new ≡ (driven requests.now (new book memory.old)).bytes) }
 {
     let mut store = Plain::new(memory);
-    drive(heap, &mut store, book, requests)
+    drive_lent(heap, &mut store, book, requests)
 }
 
 // The working memory then has the copied pages, as the hall left them: with the image's other pages they are what it left.
@@ -38,7 +38,7 @@ pub fn drive_image(
     ensures work { IfOk result (λ r. imaged r.0 image.now work.new ≡ (driven requests.now (new book image.now)).bytes) }
 {
     let mut store = Image::new(image, work);
-    let replies = drive(heap, &mut store, book, requests)?;
+    let replies = drive_lent(heap, &mut store, book, requests)?;
     Ok((store.copied(), replies))
 }
 

@@ -96,9 +96,9 @@ fn history(heap: Global) -> Result<Vec<Request>, Fail> {
     ]?)
 }
 
-fn copied<S: Store + Drop>(heap: Global, mut store: S) -> Result<Vec<u8>, Fail> {
+fn copied<S: Store + Drop>(heap: Global, store: S) -> Result<Vec<u8>, Fail> {
     let requests = history(heap)?;
-    let replies = drive(heap, &mut store, Book::new(), &requests)?;
+    let (_store, replies) = drive(heap, store, Book::new(), &requests)?;
     match replies.last() {
         Some(Reply::Copied(bytes)) => Ok(bytes.as_slice().to_vec(heap)?),
         _ => Ok(Vec::new(heap)),

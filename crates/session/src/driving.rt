@@ -12,8 +12,25 @@ use std::alloc::{AllocError, Global};
 use store::Store;
 use stores::{Lending, Mapped};
 
-// Makes a hall of a store that is lent to it and a book, serves the requests one after the other, and closes what is left open.
-pub fn drive<S: Store>(
+// Makes a hall of a store and a book, serves the requests one after the other, closes what is left open, and gives the store back.
+pub fn drive<S: Store + Drop>(
+    heap: Global,
+    store: S,
+    book: Book,
+    requests: &[Request],
+) -> Result<(S, Vec<Reply>), AllocError>
+    ensures replies { IfOk result (λ r. map said r.1.items ≡ Serve.replies requests.now (new book (S.Store.bytes store))) }
+    ensures answers { IfOk result (λ r. spoken (map said r.1.items) ≡ answers (history requests.now (new book (S.Store.bytes store))) (new book (S.Store.bytes store))) }
+    ensures bytes { IfOk result (λ r. S.Store.bytes r.0 ≡ (driven requests.now (new book (S.Store.bytes store))).bytes) }
+    ensures footing { IfOk result (λ r. S.Store.footing r.0 ≡ S.Store.footing store) }
+{
+    let mut session = Session::new(store, book);
+    let replies = session.serve_all(heap, requests)?;
+    Ok((session.finish(), replies))
+}
+
+// The same of a store that is lent, which its lender then has as the hall left it.
+pub fn drive_lent<S: Store>(
     heap: Global,
     store: &mut S,
     book: Book,
@@ -24,9 +41,8 @@ pub fn drive<S: Store>(
     ensures bytes { OnOk result (S.Store.bytes store.new ≡ (driven requests.now (new book (S.Store.bytes store.old))).bytes) }
     ensures footing { OnOk result (S.Store.footing store.new ≡ S.Store.footing store.old) }
 {
-    let mut session = Session::new(Lending::new(store), book);
-    let replies = session.serve_all(heap, requests)?;
-    session.finish().release();
+    let (lent, replies) = drive(heap, Lending::new(store), book, requests)?;
+    lent.release();
     Ok(replies)
 }
 
@@ -45,7 +61,7 @@ pub fn drive_mapped<S: Store>(
     ensures footing { OnOk result (S.Store.footing below.new ≡ S.Store.footing below.old) }
 {
     let mut store = Mapped::new(Lending::new(below), table);
-    let replies = drive(heap, &mut store, book, requests)?;
+    let replies = drive_lent(heap, &mut store, book, requests)?;
     store.release().release();
     Ok(replies)
 }

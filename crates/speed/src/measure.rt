@@ -6,15 +6,15 @@ use std::time::Instant;
 use store::Store;
 
 // Drives the requests over a store; its steps are a result, and its time is told beside.
-pub fn measure<S: Store>(
+pub fn measure<S: Store + Drop>(
     rt: &HostRuntime,
     kind: &str,
-    store: &mut S,
+    store: S,
     book: Book,
     requests: &[Request],
 ) -> Result<u64, Failure> {
     let start = Instant::now(rt)?;
-    let replies = drive(rt.alloc(), store, book, requests)?;
+    let (_store, replies) = drive(rt.alloc(), store, book, requests)?;
     let micros = u64::try_from(start.elapsed(rt)?.as_micros()).unwrap_or(u64::MAX);
     println!(rt; "{kind} {} steps", steps(&replies))?;
     Ok(micros)

@@ -33,8 +33,7 @@ fn over_plain(
     requests: &[Request],
 ) -> Result<u64, Failure> {
     let mut memory = read_image(rt, image)?;
-    let mut store = Plain::new(&mut memory);
-    measure(rt, "plain", &mut store, book, requests)
+    measure(rt, "plain", Plain::new(&mut memory), book, requests)
 }
 
 fn over_image(
@@ -45,8 +44,7 @@ fn over_image(
 ) -> Result<u64, Failure> {
     let image = read_image(rt, image)?;
     let mut work = zeroed(rt.alloc(), 65536)?;
-    let mut store = Image::new(&image, &mut work);
-    measure(rt, "image", &mut store, book, requests)
+    measure(rt, "image", Image::new(&image, &mut work), book, requests)
 }
 
 // Each of the two has the pages in their order, so that the program finds its bytes.
@@ -60,12 +58,12 @@ fn over_pages(
     let table = identity();
     if check_table(&table).is_ok() {
         let mut memory = read_image(rt, image)?;
-        let mut store = Mapped::new(Plain::new(&mut memory), table);
-        let micros = measure(rt, MAPPED, &mut store, book, requests)?;
+        let store = Mapped::new(Plain::new(&mut memory), table);
+        let micros = measure(rt, MAPPED, store, book, requests)?;
         tell(rt, MAPPED, micros, plain)?;
         let mut memory = read_image(rt, image)?;
-        let mut store = Mapped::new(Mapped::new(Plain::new(&mut memory), table), table);
-        let micros = measure(rt, TWICE_MAPPED, &mut store, book, requests)?;
+        let store = Mapped::new(Mapped::new(Plain::new(&mut memory), table), table);
+        let micros = measure(rt, TWICE_MAPPED, store, book, requests)?;
         tell(rt, TWICE_MAPPED, micros, plain)?;
     }
     Ok(())

@@ -8,7 +8,7 @@ use Rattle.session.proofs.driving.drive_mapped.Goals as goal
 pub returns-clause-bytes : goal.returns-clause-bytes
 returns-clause-bytes g c =
     let s = c.new-store.result in
-    let t = c.drive.new.store in
+    let t = c.drive_lent.new.store in
     let k = same_start t.table s.table _ _ (t.paged ∙ sym s.paged) c.in_ok-replies.ensures.footing in
     let r = same_rest t.table s.table _ _ (t.paged ∙ sym s.paged) c.in_ok-replies.ensures.footing in
     let n = ap (λ l. l.store.now) c.new-store.ensures.below ∙ ap (λ b. b.now) c.new.ensures in
@@ -20,6 +20,6 @@ returns-clause-bytes g c =
 pub returns-clause-footing : goal.returns-clause-footing
 returns-clause-footing g c =
     let s = c.new-store.result in
-    let t = c.drive.new.store in
+    let t = c.drive_lent.new.store in
     let r = same_rest t.table s.table _ _ (t.paged ∙ sym s.paged) c.in_ok-replies.ensures.footing in
     search rules
