@@ -1,1 +1,4 @@
 mod Rest
+mod Columns
+mod Names
+mod Gather

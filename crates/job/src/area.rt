@@ -1,4 +1,5 @@
 ghost use Rattle.std.specs.Prelude.{◌≡◌, ◌*◌};
+ghost use Rattle.job.specs.Fields.{area_at};
 
 // So many halfwords of the store, from an address on.
 #[derive(Clone, Copy, PartialEq, Eq, Debug)]
@@ -9,7 +10,9 @@ pub struct Area {
 
 impl Area {
     // None where it does not lie in the store whole.
-    pub fn new(address: u16, halfwords: u16) -> Option<Area> {
+    pub fn new(address: u16, halfwords: u16) -> Option<Area>
+        ensures { result ≡ area_at address halfwords }
+    {
         let end = u32::from(address) + 2 * u32::from(halfwords);
         (end <= 65536).then_some(Area { address, halfwords })
     }

@@ -1,7 +1,12 @@
+ghost use Rattle.std.specs.Prelude.{◌≡◌};
+ghost use Rattle.job.specs.Fields.{fields, left, taken};
+ghost use Rattle.job.specs.Lines.{first_time, granted, entered, by_fields, line_rule, left_by, so_far};
+ghost use Rattle.job.specs.Text.{finished, spoken};
+
 use crate::area::Area;
 use crate::entry::Entry;
 use crate::fault::Fault;
-use crate::fields::{area, bay, file, full, grant, half, turns};
+use crate::fields::Fields;
 use crate::job::{Job, Turns};
 use access::{Access, Bay, Grant};
 use bays::{clash_with_any, first_vacant};
@@ -20,68 +25,73 @@ pub struct Draft<'a> {
     results: Option<&'a str>,
 }
 
-// The value, where none was there before.
-fn once<T: Drop>(slot: &mut Option<T>, value: T) -> Result<(), Fault> {
+// The value of the entry, where none was there before.
+fn once<T: Drop>(slot: &mut Option<T>, entry: Entry, value: T) -> Result<(), Fault>
+    ensures { left_by result slot.new ≡ first_time entry slot.old value }
+{
     match slot.replace(value) {
         None => Ok(()),
-        Some(_) => Err(Fault::Repeated),
+        Some(_) => Err(Fault::Repeated(entry)),
     }
 }
 
+// One grant more, or a refusal, in the order in which a hall refuses.
+fn add_grant(grants: &mut [Option<Grant>; 6], grant: Grant) -> Result<(), Fault>
+    ensures { left_by result grants.new ≡ granted grants.old grant }
+{
+    if grant.last < grant.first {
+        return Err(Fault::Reversed);
+    }
+    let place = first_vacant(grants).ok_or(Fault::SeventhGrant)?;
+    if clash_with_any(grant, grants) {
+        return Err(Fault::Clash);
+    }
+    grants[place] = Some(grant);
+    Ok(())
+}
+
 impl<'a> Draft<'a> {
-    // One grant more, or a refusal, in the order in which a hall refuses.
-    fn add_grant(&mut self, grant: Grant) -> Result<(), Fault> {
-        if grant.last < grant.first {
-            return Err(Fault::Reversed);
+    // Takes up the values of an entry.
+    fn take_entry(&mut self, entry: Entry, fields: &mut Fields<'a>) -> Result<(), Fault>
+        ensures { taken (λ _. so_far self.new) result (left fields.new) ≡ entered (so_far self.old) entry (left fields.old) }
+    {
+        match entry {
+            Entry::Bay => once(&mut self.number, entry, fields.bay()?),
+            Entry::Grant => add_grant(&mut self.grants, fields.grant()?),
+            Entry::Registers => once(&mut self.registers, entry, fields.registers()?),
+            Entry::Input => once(&mut self.input, entry, fields.area()?),
+            Entry::Output => once(&mut self.output, entry, fields.area()?),
+            Entry::Turns => once(&mut self.turns, entry, fields.turns()?),
+            Entry::Records => once(&mut self.records, entry, fields.file()?),
+            Entry::Results => once(&mut self.results, entry, fields.file()?),
         }
-        let place = first_vacant(&self.grants).ok_or(Fault::SeventhGrant)?;
-        if clash_with_any(grant, &self.grants) {
-            return Err(Fault::Clash);
-        }
-        self.grants[place] = Some(grant);
-        Ok(())
     }
 
-    fn enter(&mut self, line: &'a [u8]) -> Result<(), Fault> {
-        let mut fields = line.split(|b| *b == b'\t');
-        match Entry::try_from(fields.next().ok_or(Fault::Fields)?)? {
-            Entry::Bay => once(&mut self.number, bay(fields.next())?)?,
-            Entry::Grant => { self.add_grant(grant(fields.next(), fields.next(), fields.next())?)? }
-            Entry::Registers => once(
-                &mut self.registers,
-                Registers {
-                    a: full(fields.next())?,
-                    b: full(fields.next())?,
-                    x: half(fields.next())?,
-                    y: half(fields.next())?,
-                    z: half(fields.next())?,
-                    s: half(fields.next())?,
-                    l: half(fields.next())?,
-                    ..Registers::default()
-                },
-            )?,
-            Entry::Input => once(&mut self.input, area(fields.next(), fields.next())?)?,
-            Entry::Output => once(&mut self.output, area(fields.next(), fields.next())?)?,
-            Entry::Turns => once(&mut self.turns, turns(fields.next(), fields.next())?)?,
-            Entry::Records => once(&mut self.records, file(fields.next())?)?,
-            Entry::Results => once(&mut self.results, file(fields.next())?)?,
-        }
-        match fields.next() {
-            None => Ok(()),
-            Some(_) => Err(Fault::Fields),
-        }
+    fn take_fields(&mut self, line: &'a [u8]) -> Result<(), Fault>
+        ensures { left_by result (so_far self.new) ≡ by_fields (so_far self.old) (fields line.now) }
+    {
+        let mut fields = Fields::new(line);
+        let entry = Entry::try_from(fields.next_field()?)?;
+        self.take_entry(entry, &mut fields)?;
+        fields.end()
     }
 
     // What one line says; empty lines and comments say nothing.
-    pub fn take_line(&mut self, line: &'a [u8]) -> Result<(), Fault> {
+    #[tactic(auto, unfolding(crate::specs::Lines::line_rule))]
+    pub fn take_line(&mut self, line: &'a [u8]) -> Result<(), Fault>
+        ensures { left_by result (so_far self.new) ≡ line_rule (so_far self.old) line.now }
+    {
         match line {
             [] | [b'#', ..] => Ok(()),
-            _ => self.enter(line),
+            _ => self.take_fields(line),
         }
     }
 
     // The whole job: each entry is there, records can be put in, and results can be taken.
-    pub fn finish(self) -> Result<Job<'a>, Fault> {
+    #[tactic(auto, unfolding(crate::specs::Text::finished))]
+    pub fn finish(self) -> Result<Job<'a>, Fault>
+        ensures { spoken result ≡ finished (so_far self.entry) }
+    {
         let Draft {
             number,
             grants,

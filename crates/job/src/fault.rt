@@ -20,8 +20,8 @@ pub enum Fault {
     Kind,
     #[error("a file name that is empty or not UTF-8")]
     Text,
-    #[error("this entry stands twice")]
-    Repeated,
+    #[error("the entry {0} stands twice")]
+    Repeated(Entry),
     #[error("grant refused with 4: last is below first")]
     Reversed,
     #[error("grant refused with 5: a bay has six at most")]

@@ -9,6 +9,7 @@ mod fields;
 mod job;
 mod read;
 mod run;
+mod values;
 
 pub use area::Area;
 pub use entry::Entry;

@@ -1,0 +1,5 @@
+use Rattle.job.proofs.Columns.{not_ended}
+use Rattle.job.proofs.fields.Fields.end.Goals as goal
+
+pub returns-in-Some : goal.returns-in-Some
+returns-in-Some c = not_ended c.args.self.rest c.in-Some.field-0 c.in-Some.is
