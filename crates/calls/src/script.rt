@@ -2,7 +2,7 @@ use crate::call::read_call;
 use inputs::Failure;
 use session::Request;
 use std::alloc::{AllocError, Global};
-use text::{Line, Lines, Unended};
+use text::{Line, Lines};
 
 // Blank lines and comments ask nothing.
 fn is_silent(line: &[u8]) -> bool {
@@ -21,15 +21,11 @@ fn take_line(heap: Global, requests: &mut Vec<Request>, line: Line) -> Result<()
     Ok(())
 }
 
-fn unended(last: Unended) -> Failure {
-    Failure::Unended { line: last.line }
-}
-
 // The calls of a script, each a line of it.
 pub fn read_script(heap: Global, text: &[u8]) -> Result<Vec<Request>, Failure> {
     let mut requests = Vec::new(heap);
     let mut lines = Lines::new(text);
-    'lines: while let Some(line) = lines.next_line().map_err(unended)? {
+    'lines: while let Some(line) = lines.next_line()? {
         take_line(heap, &mut requests, line)?;
     }
     Ok(requests)

@@ -2,17 +2,10 @@ use crate::answer::print_reply;
 use crate::script::read_script;
 use crate::table::read_table;
 use book::Book;
-use inputs::{Failure, read_file, words, zeroed};
+use inputs::{Failure, read_file, read_input, words, zeroed};
 use session::{Reply, Request, drive, drive_mapped};
-use std::io::Read;
 use store::{Store, check_size};
 use stores::{Image, check_table};
-
-fn read_input(rt: &HostRuntime) -> Result<Vec<u8>, Failure> {
-    let mut text = Vec::new(rt.alloc());
-    let _count = rt.stdin().read_to_end(&mut text)?;
-    Ok(text)
-}
 
 fn print_replies(rt: &HostRuntime, replies: &[Reply]) -> Result<(), Failure> {
     for reply in replies {

@@ -1,6 +1,7 @@
 ghost use Rattle.std.specs.Prelude.{◌≡◌};
 ghost use Rattle.cases.specs.declared.unread.Unread.TheVariants.{OutOfMemory};
 
+use inputs::Failure;
 use std::alloc::AllocError;
 
 // Why a line gives no case to answer.
@@ -8,6 +9,16 @@ use std::alloc::AllocError;
 pub enum Unread {
     NoCase,
     OutOfMemory(AllocError),
+}
+
+impl Unread {
+    // What the program says of it, with the number of the line.
+    pub fn at(self, line: usize) -> Failure {
+        match self {
+            Unread::NoCase => Failure::NoCase { line },
+            Unread::OutOfMemory(e) => Failure::Memory(e),
+        }
+    }
 }
 
 impl From<AllocError> for Unread {

@@ -17,18 +17,15 @@ fn results(
     store: &mut Owned,
     records: &[u8],
 ) -> Result<Vec<u8>, Failure> {
-    run_records(
-        heap,
-        book,
-        job,
-        store,
-        records,
-        |ran| if halted(ran) {
+    let mut record = 0u64;
+    run_records(heap, book, job, store, records, |ran| {
+        record = record.saturating_add(1);
+        if halted(ran) {
             Ok(())
         } else {
-            Err(Failure::of_file(heap, name, Fault::Unhalted))
-        },
-    )
+            Err(Failure::of_file(heap, name, Fault::Unhalted { record }))
+        }
+    })
 }
 
 pub fn demonstrate(rt: &HostRuntime) -> Result<(), Failure> {
@@ -60,4 +57,43 @@ pub fn demonstrate(rt: &HostRuntime) -> Result<(), Failure> {
     let wrong = float_differing(&counts, &heights);
     println!(rt; "a float division with rounding gets wrong: {wrong}")?;
     Ok(())
+}
+
+#[cfg(test)]
+mod tests {
+    use super::*;
+    use inputs::zeroed;
+    use job::read_job;
+    use std::test::Fail;
+
+    // A record is the instruction that is run.
+    const JOB: &[u8] =
+        b"bay\t1\ngrant\twrite\t0\t1\nregisters\t0\t0\t0\t0\t0\t0\t0\ninput\t0\t1\noutput\t0\t1\nturns\t1\t1\nrecords\ta\nresults\tb\n";
+
+    const HRK: [u8; 2] = [0x12, 0x01];
+
+    // Undefined under every book.
+    const NONE: [u8; 2] = [0, 0];
+
+    #[test]
+    fn the_record_whose_run_did_not_halt_is_told(rt: HostRuntime) -> Result<(), Fail> {
+        let Ok(job) = read_job(JOB) else {
+            panic!(rt; "a job");
+        };
+        let mut store = Owned::new(zeroed(rt.alloc(), 65536)?);
+        let records = [HRK, NONE, HRK];
+        let Err(failure) = results(
+            rt.alloc(),
+            &Book::new(),
+            "a.job",
+            &job,
+            &mut store,
+            records.as_flattened(),
+        ) else {
+            panic!(rt; "a run that does not halt");
+        };
+        let told = failure.to_string(rt.alloc())?;
+        assert_eq!(rt; told.as_str(), "a.job: the run of record 2 did not halt");
+        Ok(())
+    }
 }

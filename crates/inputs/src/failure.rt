@@ -1,11 +1,12 @@
 ghost use Rattle.std.specs.Prelude.{◌≡◌};
 ghost use Rattle.inputs.specs.Faults.{IsAbout, IsOfFile};
-ghost use Rattle.inputs.specs.declared.failure.Failure.TheVariants.{Memory, System};
+ghost use Rattle.inputs.specs.declared.failure.Failure.TheVariants.{Memory, System, Unended as NoLineFeed};
 
 use bays::Refusal;
 use std::alloc::{AllocError, Global};
 use std::io;
 use store::Unmade;
+use text::Unended;
 use thiserror::Error;
 
 // What is wrong with a file.
@@ -30,20 +31,34 @@ pub enum Fault {
         bytes: usize,
         size: usize,
     },
-    #[error("open of bay {bay} is refused with {}", .refusal.number())]
+    #[error("it has no record")]
+    NoRecord,
+    #[error("open of bay {bay} is refused with {}: {refusal}", .refusal.number())]
     Opening {
         bay: u8,
         refusal: Refusal,
     },
-    #[error("grant {kind} {first} {last} is refused with {}", .refusal.number())]
+    #[error("grant {kind} {first} {last} is refused with {}: {refusal}", .refusal.number())]
     Granting {
         kind: &'static str,
         first: u16,
         last: u16,
         refusal: Refusal,
     },
-    #[error("a run did not halt")]
-    Unhalted,
+    // Refused for a grant of that bay, which is of that job.
+    #[error("grant {kind} {first} {last} is refused with {}: it clashes with a grant of bay {bay} ({job})", Refusal::Clash.number())]
+    Clash {
+        kind: &'static str,
+        first: u16,
+        last: u16,
+        bay: u8,
+        job: String,
+    },
+    // By the record's number, from 1.
+    #[error("the run of record {record} did not halt")]
+    Unhalted {
+        record: u64,
+    },
     // An output file that is there already, by what the program calls it.
     #[error("{0} exists already, and is not overwritten")]
     Exists(&'static str),
@@ -63,6 +78,8 @@ pub enum Failure {
     Unhalted(&'static str),
     #[error("line {line} is no call")]
     NoCall { line: usize },
+    #[error("line {line} is no case")]
+    NoCase { line: usize },
     #[error("line {line} lacks its line feed")]
     Unended { line: usize },
     #[error("{0}")]
@@ -101,6 +118,14 @@ impl From<AllocError> for Failure {
     }
 }
 
+impl From<Unended> for Failure {
+    ghost from_gives = { λ unended failure. failure ≡ NoLineFeed unended.line };
+
+    fn from(unended: Unended) -> Failure {
+        Failure::Unended { line: unended.line }
+    }
+}
+
 impl From<io::Error> for Failure {
     ghost from_gives = { λ e failure. failure ≡ System e };
 
@@ -131,12 +156,29 @@ mod tests {
             kind: "write",
             first: 4128,
             last: 4159,
-            refusal: Refusal::Clash,
+            refusal: Refusal::Full,
         };
         let told = Failure::of_file(rt.alloc(), "undo.job", fault).to_string(rt.alloc())?;
         assert_eq!(rt;
             told.as_str(),
-            "undo.job: grant write 4128 4159 is refused with 6"
+            "undo.job: grant write 4128 4159 is refused with 5: the bay has six grants"
+        );
+        Ok(())
+    }
+
+    #[test]
+    fn a_grant_that_clashes_is_told_with_the_other_bay(rt: HostRuntime) -> Result<(), Fail> {
+        let fault = Fault::Clash {
+            kind: "write",
+            first: 4128,
+            last: 4159,
+            bay: 1,
+            job: String::from_str(rt.alloc(), "calibrate.job")?,
+        };
+        let told = Failure::of_file(rt.alloc(), "undo.job", fault).to_string(rt.alloc())?;
+        assert_eq!(rt;
+            told.as_str(),
+            "undo.job: grant write 4128 4159 is refused with 6: it clashes with a grant of bay 1 (calibrate.job)"
         );
         Ok(())
     }
@@ -148,7 +190,25 @@ mod tests {
             refusal: Refusal::Taken,
         };
         let told = Failure::of_file(rt.alloc(), "undo.job", fault).to_string(rt.alloc())?;
-        assert_eq!(rt; told.as_str(), "undo.job: open of bay 2 is refused with 3");
+        assert_eq!(rt;
+            told.as_str(),
+            "undo.job: open of bay 2 is refused with 3: the bay is taken"
+        );
+        Ok(())
+    }
+
+    #[test]
+    fn a_run_that_did_not_halt_is_told_with_its_record(rt: HostRuntime) -> Result<(), Fail> {
+        let fault = Fault::Unhalted { record: 3 };
+        let told = Failure::of_file(rt.alloc(), "undo.job", fault).to_string(rt.alloc())?;
+        assert_eq!(rt; told.as_str(), "undo.job: the run of record 3 did not halt");
+        Ok(())
+    }
+
+    #[test]
+    fn a_line_that_is_no_case_is_told_by_its_number(rt: HostRuntime) -> Result<(), Fail> {
+        let told = Failure::NoCase { line: 3 }.to_string(rt.alloc())?;
+        assert_eq!(rt; told.as_str(), "line 3 is no case");
         Ok(())
     }
 

@@ -6,11 +6,19 @@ use book::Book;
 use job::{Job, read_job};
 use listing::assemble_into;
 use std::alloc::{AllocError, Global};
-use std::fs;
+use std::io::Read;
+use std::{fs, io};
 use store::{Owned, check_size};
 
 pub fn read_file(rt: &HostRuntime, name: &str) -> Result<Vec<u8>, Failure> {
     fs::read(rt, name).map_err(|e| Failure::of_file(rt.alloc(), name, Fault::System(e)))
+}
+
+// All of standard input.
+pub fn read_input(rt: &HostRuntime) -> io::Result<Vec<u8>> {
+    let mut text = Vec::new(rt.alloc());
+    let _count = rt.stdin().read_to_end(&mut text)?;
+    Ok(text)
 }
 
 pub fn read_book(rt: &HostRuntime, name: &str) -> Result<Book, Failure> {

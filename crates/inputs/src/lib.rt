@@ -12,8 +12,8 @@ pub use arguments::words;
 pub use ending::{ended, write_new};
 pub use failure::{Failure, Fault};
 pub use files::{
-    assembled, parse_job, read_book, read_file, read_image, read_records, refuse_existing,
-    refuse_partial, zeroed,
+    assembled, parse_job, read_book, read_file, read_image, read_input, read_records,
+    refuse_existing, refuse_partial, zeroed,
 };
 pub use runs::{halted, run_records};
 pub use values::{full, half, registers};

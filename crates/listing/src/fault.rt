@@ -30,7 +30,7 @@ pub enum Fault {
 }
 
 // The first fault of a listing, with the number of its line. A book's, a listing's and a job's refusal have a type each, not one over
-// the fault: a book's prints its number and not its fault, and for the other two that type would want a crate below both, bounds for its
+// the fault: a book's prints its number before its fault, and for the other two that type would want a crate below both, bounds for its
 // `Display` and its `From<Unended>`, and an alias in each.
 #[derive(Clone, Copy, PartialEq, Eq, Debug, Error)]
 #[error("line {line}: {fault}")]

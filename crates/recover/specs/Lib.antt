@@ -1,1 +1,2 @@
+pub mod Clashes
 pub mod Records

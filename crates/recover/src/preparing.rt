@@ -1,6 +1,10 @@
+ghost use Rattle.recover.specs.Clashes.{first_clash};
+ghost use Rattle.std.specs.Option.{option_copied};
+ghost use Rattle.std.specs.Prelude.{◌≡◌};
+
 use crate::institute::Institute;
 use access::{Grant, Kind};
-use bays::Refusal;
+use bays::{Refusal, clash_with_any};
 use inputs::{Failure, Fault};
 use session::{Deed, Reply, Request, Session};
 use std::alloc::{AllocError, Global};
@@ -41,36 +45,138 @@ fn open<S: Store + Drop>(
     }
 }
 
+// The first of them that has a grant with which this one clashes.
+fn clashing<'a, 'b>(institutes: &'a [Institute<'b>], grant: Grant) -> Option<&'a Institute<'b>>
+    ensures { option_copied result ≡ first_clash grant institutes.now }
+{
+    institutes.iter().find(|institute| clash_with_any(grant, &institute.job.bay.grants))
+}
+
+// A refused grant; one that clashes is told with the bay that it clashes with, which is of one of the earlier jobs.
+fn refused_grant(
+    heap: Global,
+    earlier: &[Institute],
+    grant: Grant,
+    refusal: Refusal,
+) -> Result<Fault, AllocError> {
+    let Grant { kind, first, last } = grant;
+    let kind = word(kind);
+    match clashing(earlier, grant) {
+        Some(other) if refusal == Refusal::Clash => Ok(Fault::Clash {
+            kind,
+            first,
+            last,
+            bay: other.job.number,
+            job: String::from_str(heap, other.name)?,
+        }),
+        _ => Ok(Fault::Granting {
+            kind,
+            first,
+            last,
+            refusal,
+        }),
+    }
+}
+
 fn add_grant<S: Store + Drop>(
     heap: Global,
     session: &mut Session<S>,
+    earlier: &[Institute],
     institute: &Institute,
     grant: Grant,
 ) -> Result<(), Failure> {
     match serve(heap, session, institute.job.number, Deed::Grant(grant))? {
         None => Ok(()),
         Some(refusal) => {
-            let fault = Fault::Granting {
-                kind: word(grant.kind),
-                first: grant.first,
-                last: grant.last,
-                refusal,
-            };
+            let fault = refused_grant(heap, earlier, grant, refusal)?;
             Err(Failure::of_file(heap, institute.name, fault))
         }
     }
 }
 
 // Opens the bay of a job, gives it its grants, and seals it; where that is refused the job is named.
-pub fn prepare<S: Store + Drop>(
+fn prepare<S: Store + Drop>(
     heap: Global,
     session: &mut Session<S>,
+    earlier: &[Institute],
     institute: &Institute,
 ) -> Result<(), Failure> {
     open(heap, session, institute)?;
     for grant in institute.job.bay.grants.iter().flatten() {
-        add_grant(heap, session, institute, *grant)?;
+        add_grant(heap, session, earlier, institute, *grant)?;
     }
     let _sealed = serve(heap, session, institute.job.number, Deed::Seal)?;
     Ok(())
+}
+
+// The bays of all jobs, in the order of the jobs.
+pub fn prepare_all<S: Store + Drop>(
+    heap: Global,
+    session: &mut Session<S>,
+    institutes: &[Institute],
+) -> Result<(), Failure> {
+    for (number, institute) in institutes.iter().enumerate() {
+        prepare(heap, session, &institutes[..number], institute)?;
+    }
+    Ok(())
+}
+
+#[cfg(test)]
+mod tests {
+    use super::*;
+    use crate::report::Tally;
+    use book::Book;
+    use inputs::zeroed;
+    use job::read_job;
+    use std::process::Abort;
+    use std::test::Fail;
+    use store::Owned;
+
+    // Only the second has a grant that clashes with one of the third: both may read the first one's bytes.
+    const FIRST: &[u8] =
+        b"bay\t3\ngrant\tread\t0\t99\ngrant\twrite\t100\t199\nregisters\t0\t0\t0\t0\t0\t0\t0\ninput\t100\t1\noutput\t100\t1\nturns\t1\t1\nrecords\ta\nresults\tb\n";
+
+    const SECOND: &[u8] =
+        b"bay\t5\ngrant\twrite\t200\t299\nregisters\t0\t0\t0\t0\t0\t0\t0\ninput\t200\t1\noutput\t200\t1\nturns\t1\t1\nrecords\ta\nresults\tc\n";
+
+    const THIRD: &[u8] =
+        b"bay\t1\ngrant\tread\t50\t99\ngrant\twrite\t299\t400\nregisters\t0\t0\t0\t0\t0\t0\t0\ninput\t300\t1\noutput\t300\t1\nturns\t1\t1\nrecords\ta\nresults\td\n";
+
+    fn institute<'a>(
+        rt: &impl Abort,
+        heap: Global,
+        name: &'a str,
+        text: &'a [u8],
+    ) -> Institute<'a> {
+        let Ok(job) = read_job(text) else {
+            panic!(rt; "a job");
+        };
+        Institute {
+            name,
+            tally: Tally::new(job.registers),
+            job,
+            records: Vec::new(heap),
+            results: Vec::new(heap),
+        }
+    }
+
+    #[test]
+    fn a_grant_is_told_with_the_bay_that_it_clashes_with(rt: HostRuntime) -> Result<(), Fail> {
+        let heap = rt.alloc();
+        let institutes = [
+            institute(&rt, heap, "a.job", FIRST),
+            institute(&rt, heap, "b.job", SECOND),
+            institute(&rt, heap, "c.job", THIRD),
+        ];
+        let mut session = Session::new(Owned::new(zeroed(heap, 65536)?), Book::new());
+        let Err(failure) = prepare_all(heap, &mut session, &institutes) else {
+            panic!(rt; "a clash");
+        };
+        let told = failure.to_string(heap)?;
+        assert_eq!(rt;
+            told.as_str(),
+            "c.job: grant write 299 400 is refused with 6: it clashes with a grant of bay 5 (b.job)"
+        );
+        Ok(())
+    }
 }

@@ -1,5 +1,5 @@
 use crate::institute::Institute;
-use crate::preparing::prepare;
+use crate::preparing::prepare_all;
 use crate::rotation::run_all;
 use inputs::{Failure, Fault, read_book, read_file, read_image, words, write_new, zeroed};
 use session::Session;
@@ -63,9 +63,7 @@ fn run_jobs(
     session: &mut Session<Image>,
     institutes: &mut [Institute],
 ) -> Result<(), Failure> {
-    for institute in institutes.iter() {
-        prepare(rt.alloc(), session, institute)?;
-    }
+    prepare_all(rt.alloc(), session, institutes)?;
     run_all(rt, session, institutes)
 }
 

@@ -2,9 +2,11 @@ use crate::measure::measure;
 use crate::runs::requests;
 use book::Book;
 use inputs::{
-    Failure, full, parse_job, read_book, read_file, read_image, read_records, words, zeroed,
+    Failure, Fault, full, parse_job, read_book, read_file, read_image, read_records, words, zeroed,
 };
+use job::Job;
 use session::Request;
+use std::alloc::Global;
 use stores::{Image, Mapped, Plain, check_table};
 
 const MAPPED: &str = "mapped over plain";
@@ -82,6 +84,12 @@ fn measure_over(
     over_pages(rt, image, book, requests, plain)
 }
 
+fn first_record<'a>(heap: Global, job: &Job, records: &'a [u8]) -> Result<&'a [u8], Failure> {
+    records
+        .get(..job.input.bytes())
+        .ok_or_else(|| Failure::of_file(heap, job.records, Fault::NoRecord))
+}
+
 pub fn measure_all(rt: &HostRuntime) -> Result<(), Failure> {
     let words = words(rt)?;
     let [book, image, job, runs] = words.as_slice() else {
@@ -94,7 +102,41 @@ pub fn measure_all(rt: &HostRuntime) -> Result<(), Failure> {
     let text = read_file(rt, job.as_str())?;
     let job = parse_job(rt, job.as_str(), &text)?;
     let records = read_records(rt, &job)?;
-    let record = records.get(..job.input.bytes()).unwrap_or(&[]);
+    let record = first_record(rt.alloc(), &job, &records)?;
     let requests = requests(rt.alloc(), &job, record, runs)?;
     measure_over(rt, image.as_str(), book, &requests)
+}
+
+#[cfg(test)]
+mod tests {
+    use super::*;
+    use job::read_job;
+    use std::test::Fail;
+
+    // A record of one halfword.
+    const JOB: &[u8] =
+        b"bay\t1\ngrant\twrite\t0\t1\nregisters\t0\t0\t0\t0\t0\t0\t0\ninput\t0\t1\noutput\t0\t1\nturns\t1\t1\nrecords\ta.rec\nresults\tb\n";
+
+    #[test]
+    fn a_record_is_the_first(rt: HostRuntime) -> Result<(), Fail> {
+        let Ok(job) = read_job(JOB) else {
+            panic!(rt; "a job");
+        };
+        let record = first_record(rt.alloc(), &job, &[5, 6, 7, 8]);
+        assert!(rt; record.is_ok_and(|record| record == [5, 6].as_slice()));
+        Ok(())
+    }
+
+    #[test]
+    fn a_file_without_a_record_is_told(rt: HostRuntime) -> Result<(), Fail> {
+        let Ok(job) = read_job(JOB) else {
+            panic!(rt; "a job");
+        };
+        let Err(failure) = first_record(rt.alloc(), &job, &[]) else {
+            panic!(rt; "no record");
+        };
+        let told = failure.to_string(rt.alloc())?;
+        assert_eq!(rt; told.as_str(), "a.rec: it has no record");
+        Ok(())
+    }
 }

@@ -1,6 +1,6 @@
 use Rattle.std.proofs.Common.{length}
 use Rattle.text.specs.Next.{left}
-use Rattle.cases.proofs.answer_all.Given as goal
+use Rattle.cases.proofs.work.answer_all.Given as goal
 
 abbrev pub decreases-lines : goal.decreases-lines
 decreases-lines l = length (left l.lines)
