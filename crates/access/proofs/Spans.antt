@@ -1,9 +1,11 @@
--- What one grant has, a byte and the next, its bay may be asked byte by byte.
-use Rattle.std.proofs.Common.{◌≡◌, ℕ, ◌+◌, ◌%◌, ◌<◌, ◌&&◌, ◌||◌, ◌⊎◌, Bool, true, false, List, [], ◌∷◌, Some, None, Ok, Err, Option, Result, refl, sym, ap, ◌∙◌, inl, inr, arith, cond, get_or, leb, ltb}
+-- What one grant has, its bay may be asked byte by byte.
+use Rattle.std.proofs.Common.{◌≡◌, ℕ, zero, suc, ◌+◌, ◌%◌, ◌<◌, ◌≤◌, ◌&&◌, ◌||◌, ◌⊎◌, Bool, true, false, List, [], ◌∷◌, Some, None, Ok, Err, Option, Result, refl, sym, ap, ◌∙◌, inl, inr, arith, cond, get_or, slice_index_or, leb}
 use Rattle.std.proofs.lemmas.Bool.Decides.{nat_tests}
-use Rattle.std.specs.List.{list_any}
+use Rattle.std.specs.List.{list_any, position, position_from}
+use Rattle.std.specs.Option.{is_some}
+use Rattle.std.proofs.lemmas.Iterator.Adapters.{position_from-zero}
 use Rattle.word.specs.Bytes as bytes
-use Rattle.access.specs.Access.{allows, bind, checked, covers, covers_pair, granted, half_at, half_may, permits, seen, spans}
+use Rattle.access.specs.Access.{allows, bind, checked, covers_all, full_may, half_at, half_may, permits, seen, serves, spans}
 use Rattle.access.specs.declared.bay.Bay.{Bay}
 use Rattle.access.specs.declared.bay.Grant.{Grant}
 use Rattle.access.specs.declared.stop.Access.{Access}
@@ -22,43 +24,75 @@ or_second : (a b : Bool) → b ≡ true → a || b ≡ true
 or_second true b e = refl
 or_second false b e = e
 
-within_one : (first last at : ℕ) (p : Bool) → (leb first at && ltb at last) && p ≡ true → ((leb first at && leb at last) && p ≡ true) × ((leb first (at + 1) && leb (at + 1) last) && p ≡ true)
-within_one first last at true e = (grind (arith, nat_tests), grind (arith, nat_tests))
-within_one first last at false e = let z = no (leb first at && ltb at last) e in cc
+-- a grant that has the bytes from a to b has those from c to d among them
+within_one : (first last a b c d : ℕ) (p : Bool) → a ≤ c → d ≤ b → (leb first a && leb b last) && p ≡ true → (leb first c && leb d last) && p ≡ true
+within_one first last a b c d true h k e = grind (arith, nat_tests)
+within_one first last a b c d false h k e = let z = no (leb first a && leb b last) e in cc
   where
-    no : (a : Bool) → a && false ≡ true → false ≡ true
+    no : (x : Bool) → x && false ≡ true → false ≡ true
     no true z = z
     no false z = z
 
-one : (g : Option Grant) (w : Access) (at : ℕ) → covers_pair g w at ≡ true → (covers g w at ≡ true) × (covers g w (at + 1) ≡ true)
-one None w at e = cc
-one (Some g) w at e = within_one g.first g.last at (permits g.kind w) e
+one : (g : Option Grant) (w : Access) (a b c d : ℕ) → a ≤ c → d ≤ b → covers_all g w a b ≡ true → covers_all g w c d ≡ true
+one None w a b c d h k e = cc
+one (Some g) w a b c d h k e = within_one g.first g.last a b c d (permits g.kind w) h k e
 
-each : (gs : List (Option Grant)) (w : Access) (at : ℕ) → list_any (λ g. covers_pair g w at) gs ≡ true → (granted gs w at ≡ true) × (granted gs w (at + 1) ≡ true)
-each [] w at e = cc
-each (g ∷ gs) w at e =
-    elim (or_cases (covers_pair g w at) (list_any (λ g. covers_pair g w at) gs) e) [
-      | inl h ↦ (or_first (covers g w at) (granted gs w at) (one g w at h).0, or_first (covers g w (at + 1)) (granted gs w (at + 1)) (one g w at h).1)
-      | inr t ↦ (or_second (covers g w at) (granted gs w at) (each gs w at t).0, or_second (covers g w (at + 1)) (granted gs w (at + 1)) (each gs w at t).1)
+each : (gs : List (Option Grant)) (w : Access) (a b c d : ℕ) → a ≤ c → d ≤ b → list_any (λ g. covers_all g w a b) gs ≡ true → list_any (λ g. covers_all g w c d) gs ≡ true
+each [] w a b c d h k e = cc
+each (g ∷ gs) w a b c d h k e =
+    elim (or_cases (covers_all g w a b) (list_any (λ g. covers_all g w a b) gs) e) [
+      | inl t ↦ or_first (covers_all g w c d) (list_any (λ g. covers_all g w c d) gs) (one g w a b c d h k t)
+      | inr t ↦ or_second (covers_all g w c d) (list_any (λ g. covers_all g w c d) gs) (each gs w a b c d h k t)
     ]
 
--- what is asked of a byte and of the one at m, by whether they are allowed
+part : (bay : Bay) (w : Access) (a b c d : ℕ) → a ≤ c → d ≤ b → spans bay w a b ≡ true → spans bay w c d ≡ true
+part bay w a b c d h k e = each bay.grants w a b c d h k e
+
+-- what is asked of a byte, by whether it is allowed
 abbrev asked : Access → ℕ → Bool → Result (Unit {0}) Denial
 asked w at b = cond b (Ok tt) (Err (record { access = w; byte = at }))
 
 abbrev look_both : Bay → List ℕ → ℕ → ℕ → Bool → Bool → Result ℕ Denial
 look_both bay bs at m a b = bind (bind (asked Read at a) (λ _. Ok (get_or bs at 0))) (λ high. bind (bind (asked Read m b) (λ _. Ok (get_or bs m 0))) (λ low. Ok (bytes.half high low)))
 
-pub pair_read : (bay : Bay) (bs : List ℕ) (at next : ℕ) → next ≡ at + 1 → at < 65535 → spans bay Read at ≡ true → Ok (bytes.half (get_or bs at 0) (get_or bs next 0)) ≡ half_at (seen bay bs) at
+pub pair_read : (bay : Bay) (bs : List ℕ) (at next : ℕ) → next ≡ at + 1 → at < 65535 → spans bay Read at next ≡ true → Ok (bytes.half (get_or bs at 0) (get_or bs next 0)) ≡ half_at (seen bay bs) at
 pair_read bay bs at next n h e =
     let m : (at + 1) % 65536 ≡ at + 1 = omega arith in
-    let k = each bay.grants Read at e in
-    let l : allows bay Read ((at + 1) % 65536) ≡ true = ap (allows bay Read) m ∙ k.1 in
-    ap (λ (j : ℕ). Ok (bytes.half (get_or bs at 0) (get_or bs j 0))) (n ∙ sym m) ∙ sym (λ i. look_both bay bs at ((at + 1) % 65536) (k.0 i) (l i))
+    let k : allows bay Read at ≡ true = part bay Read at next at at (omega arith) (omega arith) e in
+    let l : allows bay Read ((at + 1) % 65536) ≡ true = ap (allows bay Read) m ∙ part bay Read at next (at + 1) (at + 1) (omega arith) (omega arith) e in
+    ap (λ (j : ℕ). Ok (bytes.half (get_or bs at 0) (get_or bs j 0))) (n ∙ sym m) ∙ sym (λ i. look_both bay bs at ((at + 1) % 65536) (k i) (l i))
 
-pub pair_may : (bay : Bay) (w : Access) (at : ℕ) → at < 65535 → spans bay w at ≡ true → Ok tt ≡ half_may (checked bay w) at
-pair_may bay w at h e =
+pub pair_may : (bay : Bay) (w : Access) (at next : ℕ) → next ≡ at + 1 → at < 65535 → spans bay w at next ≡ true → Ok tt ≡ half_may (checked bay w) at
+pair_may bay w at next n h e =
     let m : (at + 1) % 65536 ≡ at + 1 = omega arith in
-    let k = each bay.grants w at e in
-    let l : allows bay w ((at + 1) % 65536) ≡ true = ap (allows bay w) m ∙ k.1 in
-    sym (λ i. bind (asked w at (k.0 i)) (λ _. asked w ((at + 1) % 65536) (l i)))
+    let k : allows bay w at ≡ true = part bay w at next at at (omega arith) (omega arith) e in
+    let l : allows bay w ((at + 1) % 65536) ≡ true = ap (allows bay w) m ∙ part bay w at next (at + 1) (at + 1) (omega arith) (omega arith) e in
+    sym (λ i. bind (asked w at (k i)) (λ _. asked w ((at + 1) % 65536) (l i)))
+
+pub quad_may : (bay : Bay) (w : Access) (at : ℕ) → at < 65533 → spans bay w at (at + 3) ≡ true → Ok tt ≡ full_may (checked bay w) at
+quad_may bay w at h e =
+    let m : (at + 2) % 65536 ≡ at + 2 = omega arith in
+    let high = pair_may bay w at (at + 1) refl (omega arith) (part bay w at (at + 3) at (at + 1) (omega arith) (omega arith) e) in
+    let low = pair_may bay w (at + 2) (at + 3) (omega arith) (omega arith) (part bay w at (at + 3) (at + 2) (at + 3) (omega arith) (omega arith) e) in
+    (λ i. bind (high i) (λ _. (low ∙ ap (half_may (checked bay w)) (sym m)) i))
+
+-- the place of the first that passes a test tells whether one does
+found_next : {X : Type 0} (p : X → Bool) (i : ℕ) (xs : List X) (b : Bool) → is_some (position_from p (i + 1) xs) ≡ list_any p xs → is_some (cond b (Some i) (position_from p (i + 1) xs)) ≡ b || list_any p xs
+found_next p i xs true e = refl
+found_next p i xs false e = e
+
+found_from : {X : Type 0} (p : X → Bool) (i : ℕ) (xs : List X) → is_some (position_from p i xs) ≡ list_any p xs
+found_from p i [] = refl
+found_from p i (x ∷ xs) = found_next p i xs (p x) (found_from p (i + 1) xs)
+
+pub found_is : {X : Type 0} (p : X → Bool) (xs : List X) → is_some (position p xs) ≡ list_any p xs
+found_is p xs = ap is_some (position_from-zero p xs) ∙ found_from p 0 xs
+
+-- one grant that serves is enough
+served_among : (gs : List (Option Grant)) (i : ℕ) (w : Access) (a b : ℕ) → covers_all (slice_index_or gs i None) w a b ≡ true → list_any (λ g. covers_all g w a b) gs ≡ true
+served_among [] i w a b e = cc
+served_among (g ∷ gs) zero w a b e = or_first (covers_all g w a b) (list_any (λ g. covers_all g w a b) gs) e
+served_among (g ∷ gs) (suc i) w a b e = or_second (covers_all g w a b) (list_any (λ g. covers_all g w a b) gs) (served_among gs i w a b e)
+
+pub served : (bay : Bay) (i : ℕ) (w : Access) (a b : ℕ) → serves bay i w a b ≡ true → spans bay w a b ≡ true
+served bay i w a b e = served_among bay.grants i w a b e

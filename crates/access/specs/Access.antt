@@ -1,5 +1,5 @@
 -- Which bytes a step may reach, and how items of one, two and four bytes are read and claimed.
-use Rattle.std.specs.Prelude.{ℕ, zero, suc, ◌+◌, ◌-◌, ◌%◌, Bool, true, false, cond, ◌&&◌, List, Some, None, Ok, Err, Option, Result, nat_le, nat_lt, slice_index}
+use Rattle.std.specs.Prelude.{ℕ, zero, suc, ◌+◌, ◌-◌, ◌%◌, Bool, true, false, cond, ◌&&◌, List, Some, None, Ok, Err, Option, Result, nat_le, slice_index, slice_index_or}
 use Rattle.std.specs.List.{list_any}
 use Rattle.word.specs.Bytes as bytes
 use Rattle.access.specs.declared.bay.Bay.{Bay}
@@ -27,9 +27,13 @@ permits kind.Read Write = false
 permits kind.Write Read = true
 permits kind.Write Write = true
 
+-- one grant has all the bytes from a to b, and is of a kind that lets this be done to them
+abbrev pub covers_all : Option Grant → Access → ℕ → ℕ → Bool
+covers_all None w a b = false
+covers_all (Some g) w a b = (nat_le g.first a && nat_le b g.last) && permits g.kind w
+
 abbrev pub covers : Option Grant → Access → ℕ → Bool
-covers None w at = false
-covers (Some g) w at = (nat_le g.first at && nat_le at g.last) && permits g.kind w
+covers g w at = covers_all g w at at
 
 abbrev pub granted : List (Option Grant) → Access → ℕ → Bool
 granted gs w at = list_any (λ g. covers g w at) gs
@@ -38,13 +42,13 @@ granted gs w at = list_any (λ g. covers g w at) gs
 abbrev pub allows : Bay → Access → ℕ → Bool
 allows bay w at = granted bay.grants w at
 
--- one grant has a byte and the next one, and is of a kind that lets this be done to them
-abbrev pub covers_pair : Option Grant → Access → ℕ → Bool
-covers_pair None w at = false
-covers_pair (Some g) w at = (nat_le g.first at && nat_lt at g.last) && permits g.kind w
+-- some grant has all the bytes from a to b
+abbrev pub spans : Bay → Access → ℕ → ℕ → Bool
+spans bay w a b = list_any (λ g. covers_all g w a b) bay.grants
 
-abbrev pub spans : Bay → Access → ℕ → Bool
-spans bay w at = list_any (λ g. covers_pair g w at) bay.grants
+-- the grant at a place has them
+abbrev pub serves : Bay → ℕ → Access → ℕ → ℕ → Bool
+serves bay i w a b = covers_all (slice_index_or bay.grants i None) w a b
 
 -- each of n bytes, from an address on; past 65,535 there is none
 abbrev pub allows_all : Bay → Access → ℕ → ℕ → Bool
@@ -107,7 +111,10 @@ item_read full look at = full_at look (aligned full at)
 abbrev pub half_may : (ℕ → Result (Unit {0}) Denial) → ℕ → Result (Unit {0}) Denial
 half_may may at = bind (may at) (λ _. may ((at + 1) % 65536))
 
+abbrev pub full_may : (ℕ → Result (Unit {0}) Denial) → ℕ → Result (Unit {0}) Denial
+full_may may at = bind (half_may may at) (λ _. half_may may ((at + 2) % 65536))
+
 abbrev pub item_may : Item → (ℕ → Result (Unit {0}) Denial) → ℕ → Result (Unit {0}) Denial
 item_may byte may at = may at
 item_may half may at = half_may may (aligned half at)
-item_may full may at = bind (half_may may (aligned full at)) (λ _. half_may may ((aligned full at + 2) % 65536))
+item_may full may at = full_may may (aligned full at)

@@ -1,8 +1,7 @@
-ghost use Rattle.access.specs.Access.{checked, half_may, permits, within};
-ghost use Rattle.access.specs.declared.stop.Access.TheVariants.{Write};
-ghost use Rattle.std.specs.Prelude.{◌≡◌, ◌<◌, Some};
+ghost use Rattle.access.specs.Access.{covers_all, permits, within};
+ghost use Rattle.std.specs.Prelude.{◌≡◌, Some};
 
-use crate::stop::{Access, Denial};
+use crate::stop::Access;
 
 // What a grant lets its bay do with its bytes: read them, or read and write them.
 #[derive(Clone, Copy, Debug, PartialEq, Eq)]
@@ -12,6 +11,7 @@ pub enum Kind {
 }
 
 impl Kind {
+    #[inline(always)]
     fn lets(self, access: Access) -> bool
         ensures { result ≡ permits self access }
     {
@@ -28,18 +28,12 @@ pub struct Grant {
 }
 
 impl Grant {
-    // Whether the byte is one of the grant's, and of a kind that allows this.
-    fn covers(&self, access: Access, at: u16) -> bool
-        ensures { result ≡ Rattle.access.specs.Access.covers (Some self.now) access at }
+    // Whether the bytes from one to another are all the grant's, and it is of a kind that allows this.
+    #[inline(always)]
+    pub(crate) fn covers(&self, access: Access, first: u16, last: u16) -> bool
+        ensures { result ≡ covers_all (Some self.now) access first last }
     {
-        (self.first..=self.last).contains(&at) && self.kind.lets(access)
-    }
-
-    // The same of the byte and the next.
-    fn covers_pair(&self, access: Access, at: u16) -> bool
-        ensures { result ≡ Rattle.access.specs.Access.covers_pair (Some self.now) access at }
-    {
-        (self.first..self.last).contains(&at) && self.kind.lets(access)
+        self.first <= first && last <= self.last && self.kind.lets(access)
     }
 }
 
@@ -54,41 +48,7 @@ impl Bay {
     pub fn allows(&self, access: Access, at: u16) -> bool
         ensures { result ≡ Rattle.access.specs.Access.allows self.now access at }
     {
-        self.grants.iter().any(|grant| grant.is_some_and(|grant| grant.covers(access, at)))
-    }
-
-    // Whether one grant has a byte and the next: then neither needs to be asked for alone.
-    pub(crate) fn spans(&self, access: Access, at: u16) -> bool
-        ensures { result ≡ Rattle.access.specs.Access.spans self.now access at }
-    {
-        self.grants.iter().any(|grant| grant.is_some_and(|grant| grant.covers_pair(access, at)))
-    }
-
-    pub(crate) fn check(&self, access: Access, at: u16) -> Result<(), Denial>
-        ensures { result ≡ checked self.now access at }
-    {
-        if self.allows(access, at) {
-            Ok(())
-        } else {
-            Err(Denial { access, byte: at })
-        }
-    }
-
-    pub(crate) fn may_write(&self, at: u16) -> Result<(), Denial>
-        ensures { result ≡ checked self.now Write at }
-    {
-        self.check(Access::Write, at)
-    }
-
-    pub(crate) fn may_write_pair(&self, at: u16) -> Result<(), Denial>
-        requires { at < 65535 }
-        ensures { result ≡ half_may (checked self.now Write) at }
-    {
-        if self.spans(Access::Write, at) {
-            return Ok(());
-        }
-        self.may_write(at)?;
-        self.may_write(at.wrapping_add(1))
+        self.grants.iter().any(|grant| grant.is_some_and(|grant| grant.covers(access, at, at)))
     }
 
     // Whether so many bytes, from an address on, all lie in grants that allow this; no byte past 65,535 does.

@@ -3,11 +3,10 @@ ghost use Rattle.access.specs.Access as access;
 ghost use Rattle.access.specs.declared.stop.Access.TheVariants.{Write};
 ghost use Rattle.std.specs.Prelude.{◌≡◌, ℕ, refl};
 
-use crate::bay::Bay;
+use crate::reach::Reach;
 use crate::stop::Denial;
 use crate::view::View;
 use store::Store;
-use word::bytes::full_of;
 
 // An item of the store: a byte, a halfword or a fullword, at its address with the lowest bits taken as 0.
 pub trait Item: Copy {
@@ -23,8 +22,8 @@ pub trait Item: Copy {
     fn read<S: Store>(view: &View<S>, at: u16) -> Result<Self, Denial>
         ensures { held bits result ≡ item_read item (sight_of view.now).look at };
 
-    fn may_write(bay: &Bay, at: u16) -> Result<(), Denial>
-        ensures { result ≡ item_may item (checked bay.now Write) at };
+    fn may_write(reach: &Reach, at: u16) -> Result<(), Denial>
+        ensures { result ≡ item_may item (checked reach.now Write) at };
 
     ghost sized: { size item ≡ SIZE };
 }
@@ -40,12 +39,14 @@ impl Item for u8 {
 
     ghost sized = { refl };
 
+    #[inline(always)]
     fn read<S: Store>(view: &View<S>, at: u16) -> Result<u8, Denial> {
         view.byte(at)
     }
 
-    fn may_write(bay: &Bay, at: u16) -> Result<(), Denial> {
-        bay.may_write(at)
+    #[inline(always)]
+    fn may_write(reach: &Reach, at: u16) -> Result<(), Denial> {
+        reach.may_write(at)
     }
 }
 
@@ -60,12 +61,14 @@ impl Item for u16 {
 
     ghost sized = { refl };
 
+    #[inline(always)]
     fn read<S: Store>(view: &View<S>, at: u16) -> Result<u16, Denial> {
         view.pair(at - at % 2)
     }
 
-    fn may_write(bay: &Bay, at: u16) -> Result<(), Denial> {
-        bay.may_write_pair(at - at % 2)
+    #[inline(always)]
+    fn may_write(reach: &Reach, at: u16) -> Result<(), Denial> {
+        reach.may_write_pair(at - at % 2)
     }
 }
 
@@ -80,16 +83,13 @@ impl Item for u32 {
 
     ghost sized = { refl };
 
+    #[inline(always)]
     fn read<S: Store>(view: &View<S>, at: u16) -> Result<u32, Denial> {
-        let at = at - at % 4;
-        let high = view.pair(at)?;
-        let low = view.pair(at.wrapping_add(2))?;
-        Ok(full_of(high, low))
+        view.quad(at - at % 4)
     }
 
-    fn may_write(bay: &Bay, at: u16) -> Result<(), Denial> {
-        let at = at - at % 4;
-        bay.may_write_pair(at)?;
-        bay.may_write_pair(at.wrapping_add(2))
+    #[inline(always)]
+    fn may_write(reach: &Reach, at: u16) -> Result<(), Denial> {
+        reach.may_write_quad(at - at % 4)
     }
 }

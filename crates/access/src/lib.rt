@@ -3,11 +3,13 @@
 
 mod bay;
 mod item;
+mod reach;
 mod show;
 mod stop;
 mod view;
 
 pub use bay::{Bay, Grant, Kind};
 pub use item::Item;
+pub use reach::Reach;
 pub use stop::{Access, Cause, Denial, Place, Stop};
 pub use view::View;

@@ -1,18 +1,19 @@
-ghost use Rattle.access.specs.Access.{half_at, item_may, sight_of};
+ghost use Rattle.access.specs.Access.{full_at, half, half_at, item_may, item_read, sight_of};
 ghost use Rattle.std.specs.Prelude.{◌≡◌, ◌<◌};
 
-use crate::bay::Bay;
 use crate::item::Item;
+use crate::reach::Reach;
 use crate::stop::{Access, Denial};
+use std::cell::Cell;
 use std::marker::Model;
 use store::Store;
-use word::bytes::half_of;
+use word::bytes::{full_of, half_of};
 
 // What a step can see and ask: the store, through the grants of its bay.
 #[derive(Drop)]
 pub struct View<'a, S: Store> {
     store: &'a S,
-    bay: &'a Bay,
+    reach: &'a Reach<'a>,
 }
 
 impl<'a, S: Store> Model for View<'a, S> {
@@ -20,39 +21,96 @@ impl<'a, S: Store> Model for View<'a, S> {
 
     ghost Value = { Viewed };
 
-    ghost view = { λ v. record { bay = v.bay.now; bytes = S.Store.bytes v.store.now } };
+    ghost view = { λ v. record { bay = v.reach.now; bytes = S.Store.bytes v.store.now } };
 }
 
 impl<'a, S: Store> View<'a, S> {
-    pub fn new(store: &'a S, bay: &'a Bay) -> View<'a, S>
-        ensures { result ≡ record { bay = bay.now; bytes = S.Store.bytes store.now } }
+    #[inline(always)]
+    pub fn new(store: &'a S, reach: &'a Reach<'a>) -> View<'a, S>
+        ensures { result ≡ record { bay = reach.now; bytes = S.Store.bytes store.now } }
     {
-        View { store, bay }
+        View { store, reach }
     }
 
+    #[inline(always)]
     pub(crate) fn byte(&self, at: u16) -> Result<u8, Denial>
         ensures { result ≡ (sight_of self.now).look at }
     {
-        self.bay.check(Access::Read, at)?;
+        let reach = self.reach;
+        if reach.serves(reach.read.get(), Access::Read, at, at) {
+            return Ok(self.store.read(at));
+        }
+        Ok(self.byte_anew(at)?)
+    }
+
+    #[inline(never)]
+    fn byte_anew(&self, at: u16) -> Result<u8, Denial>
+        ensures { result ≡ (sight_of self.now).look at }
+    {
+        let reach = self.reach;
+        reach.check(&reach.read, Access::Read, at)?;
         Ok(self.store.read(at))
     }
 
+    #[inline(always)]
+    fn half(&self, near: &Cell<usize>, at: u16) -> Result<u16, Denial>
+        requires { at < 65535 }
+        ensures { result ≡ half_at (sight_of self.now).look at }
+    {
+        if self.reach.serves(near.get(), Access::Read, at, at + 1) {
+            return Ok(half_of(self.store.read(at), self.store.read(at + 1)));
+        }
+        // Taken apart, here and below: as it stands it would be made in memory, where the near grant's halfword is then too.
+        Ok(self.half_anew(near, at)?)
+    }
+
+    #[inline(never)]
+    fn half_anew(&self, near: &Cell<usize>, at: u16) -> Result<u16, Denial>
+        requires { at < 65535 }
+        ensures { result ≡ half_at (sight_of self.now).look at }
+    {
+        if self.reach.find(near, Access::Read, at, at + 1) {
+            return Ok(half_of(self.store.read(at), self.store.read(at + 1)));
+        }
+        let high = self.byte_anew(at)?;
+        let low = self.byte_anew(at + 1)?;
+        Ok(half_of(high, low))
+    }
+
+    #[inline(always)]
     pub(crate) fn pair(&self, at: u16) -> Result<u16, Denial>
         requires { at < 65535 }
         ensures { result ≡ half_at (sight_of self.now).look at }
     {
-        if self.bay.spans(Access::Read, at) {
-            return Ok(half_of(self.store.read(at), self.store.read(at + 1)));
-        }
-        let high = self.byte(at)?;
-        let low = self.byte(at.wrapping_add(1))?;
-        Ok(half_of(high, low))
+        let reach = self.reach;
+        self.half(&reach.read, at)
+    }
+
+    // A fullword by its halves, both most often under the near grant.
+    #[inline(always)]
+    pub(crate) fn quad(&self, at: u16) -> Result<u32, Denial>
+        requires { at < 65533 }
+        ensures { result ≡ full_at (sight_of self.now).look at }
+    {
+        let high = self.pair(at)?;
+        let low = self.pair(at + 2)?;
+        Ok(full_of(high, low))
+    }
+
+    // The halfword of an instruction.
+    #[inline(always)]
+    pub fn fetch(&self, at: u16) -> Result<u16, Denial>
+        ensures { result ≡ item_read half (sight_of self.now).fetch at }
+    {
+        let reach = self.reach;
+        self.half(&reach.code, at - at % 2)
     }
 
     // Leave to write an item.
+    #[inline(always)]
     pub fn may_write<T: Item>(&self, at: u16) -> Result<(), Denial>
         ensures { result ≡ item_may T.item (sight_of self.now).may at }
     {
-        T::may_write(self.bay, at)
+        T::may_write(self.reach, at)
     }
 }

@@ -9,6 +9,7 @@ use crate::whole::{is_branch, whole_word};
 use code::{Format, Name, Reading};
 use word::{low, middle, signed};
 
+#[inline(always)]
 fn begins(pattern: Option<u8>, bits: u16) -> bool
     ensures { result ≡ fits pattern bits }
 {
@@ -16,6 +17,7 @@ fn begins(pattern: Option<u8>, bits: u16) -> bool
 }
 
 // The format whose pattern begins the four bits. A test for each, since each pattern has its own number of bits.
+#[inline(always)]
 fn format_at(patterns: &[Option<u8>; 5], bits: u16) -> Option<Format>
     ensures { result ≡ pick patterns.now bits }
 {
@@ -34,6 +36,7 @@ fn format_at(patterns: &[Option<u8>; 5], bits: u16) -> Option<Format>
     }
 }
 
+#[inline(always)]
 fn m_field(format: Format, word: u16) -> u8
     ensures { result ≡ m_of format word }
 {
@@ -45,6 +48,7 @@ fn m_field(format: Format, word: u16) -> u8
     }
 }
 
+#[inline(always)]
 fn d_field(format: Format, word: u16) -> u8
     ensures { result ≡ d_of format word }
 {
@@ -58,6 +62,7 @@ fn d_field(format: Format, word: u16) -> u8
     }
 }
 
+#[inline(always)]
 fn read_a(tables: &Tables, word: u16) -> Reading
     ensures { result ≡ in_a (pick tables.now.patterns (word / 64 % 16)) tables.now word }
 {
@@ -76,6 +81,7 @@ fn read_a(tables: &Tables, word: u16) -> Reading
 }
 
 // The reading of a word that has neither a pattern nor M.
+#[inline(always)]
 fn plain(name: Name, format: Format, d: i16) -> Reading
     ensures { result ≡ Defined name format 0 d }
 {
@@ -87,6 +93,7 @@ fn plain(name: Name, format: Format, d: i16) -> Reading
     }
 }
 
+#[inline(always)]
 fn read_l(tables: &Tables, word: u16) -> Reading
     requires { word < 16384 }
     ensures { result ≡ in_l tables.now word }
@@ -108,6 +115,7 @@ fn read_l(tables: &Tables, word: u16) -> Reading
     }
 }
 
+#[inline(always)]
 fn read_word(tables: &Tables, word: u16) -> Reading
     ensures { result ≡ meaning tables.now word }
 {
@@ -124,6 +132,7 @@ fn read_word(tables: &Tables, word: u16) -> Reading
 
 impl Book {
     // What a word means under this book: its one layout, if it has any.
+    #[inline(always)]
     pub fn reading(&self, word: u16) -> Reading
         ensures is { result ≡ reading self.now.tables word }
         ensures laid { Laid self.now.tables word result }

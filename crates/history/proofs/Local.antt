@@ -10,9 +10,9 @@ use Rattle.turns.specs.Laws.{among, target}
 use Rattle.turns.specs.Step.{bytes_after, committed, half_into, into, planned, stepped}
 use Rattle.turns.specs.Turn.{Run, run}
 use Rattle.access.specs.declared.bay.Bay.{Bay}
-use Rattle.machine.specs.declared.effect.Effect.{Effect}
-use Rattle.machine.specs.declared.effect.Pending.{Pending}
-use Rattle.machine.specs.declared.effect.Pending.TheVariants.{Byte, Half, Full}
+use Rattle.machine.specs.Act.{Effect}
+use Rattle.machine.specs.declared.pending.Pending.{Pending}
+use Rattle.machine.specs.declared.pending.Pending.TheVariants.{Byte, Half, Full}
 use Rattle.machine.specs.declared.registers.Registers.{Registers}
 use Rattle.access.specs.declared.stop.Access.TheVariants.{Read, Write}
 use Rattle.access.specs.declared.stop.Stop.{Stop}

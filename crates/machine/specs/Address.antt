@@ -19,17 +19,17 @@ abbrev pub far_base : Registers → ℕ → ℕ
 far_base r m = cond (m == 1) 0 (base r m)
 
 -- the halfword at a pointer's address, plus x times the operand's length
-abbrev pub indirect : ℕ → ℕ → Registers → Plan ℕ
-indirect at k r = do
+abbrev pub indirect : ℕ → ℕ → ℕ → Plan ℕ
+indirect at k x = do
   p ← read Pointer half at
-  give (plus p (times r.x k))
+  give (plus p (times x k))
 
 -- formats L and B have no operand in store; no reading asks for one
 abbrev pub formed_as : Format → ℕ → ℕ → ℕ → Registers → Plan ℕ
 formed_as A1 m d k r = give (times d k)
 formed_as A2 m d k r = give (plus (base r m) (times d k))
-formed_as A3 m d k r = indirect (times d 2) k r
-formed_as A4 m d k r = indirect (plus (base r m) (times d 2)) k r
+formed_as A3 m d k r = indirect (times d 2) k r.x
+formed_as A4 m d k r = indirect (plus (base r m) (times d 2)) k r.x
 formed_as A5 m d k r = give (plus (plus (far_base r m) (times d k)) (times r.x k))
 formed_as L m d k r = halt Undefined
 formed_as B m d k r = halt Undefined

@@ -14,7 +14,7 @@ use Rattle.machine.specs.Address.{formed, operand}
 use Rattle.machine.specs.Bits.{controlled}
 use Rattle.machine.specs.Registers.{computed_a, computed_x, divided, jumped, linked, loaded_a, loaded_x, marked, minus, plus, raised, with_fm, with_nz, with_of, with_s, with_y, with_z}
 use Rattle.machine.specs.Strings.{compared, moved_byte, moved_half, scanned, string, translated}
-use Rattle.machine.specs.declared.effect.Effect.{Effect}
+use Rattle.machine.specs.Act.{Effect}
 use Rattle.machine.specs.declared.mode.Mode.{Mode}
 use Rattle.machine.specs.declared.registers.Registers.{Registers}
 

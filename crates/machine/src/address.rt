@@ -10,12 +10,14 @@ use code::Format;
 use store::Store;
 
 // A denial goes up with the place where it was met.
+#[inline(always)]
 pub fn at_place<T>(place: Place, res: Result<T, Denial>) -> Result<T, Cause>
     ensures { result ≡ placed place res }
 {
     res.map_err(|denial| Cause::Denied(place, denial))
 }
 
+#[inline(always)]
 fn base_of(r: Registers, m: u8) -> u16
     ensures { result ≡ base r m }
 {
@@ -27,20 +29,24 @@ fn base_of(r: Registers, m: u8) -> u16
     }
 }
 
+#[inline(always)]
 fn far_base_of(r: Registers, m: u8) -> u16
     ensures { result ≡ far_base r m }
 {
     if m == 1 { 0 } else { base_of(r, m) }
 }
 
-fn form_indirect<S: Store>(at: u16, length: u16, r: Registers, view: &View<S>) -> Result<u16, Cause>
-    ensures { result ≡ obey (sight_of view.now) (indirect at length r) }
+// One function for all: inlined, it would make the way of a step many times as long.
+#[inline(never)]
+fn form_indirect<S: Store>(at: u16, length: u16, x: u16, view: &View<S>) -> Result<u16, Cause>
+    ensures { result ≡ obey (sight_of view.now) (indirect at length x) }
 {
     let pointer = at_place(Place::Pointer, u16::read(view, at))?;
-    Ok(pointer.wrapping_add(r.x.wrapping_mul(length)))
+    Ok(pointer.wrapping_add(x.wrapping_mul(length)))
 }
 
 // The address of an operand of so many bytes.
+#[inline(always)]
 pub(crate) fn form<S: Store>(
     mode: Mode,
     length: u16,
@@ -53,11 +59,11 @@ pub(crate) fn form<S: Store>(
     match mode.format {
         Format::A1 => Ok(scaled),
         Format::A2 => Ok(base_of(r, mode.m).wrapping_add(scaled)),
-        Format::A3 => form_indirect(mode.d.wrapping_mul(2), length, r, view),
+        Format::A3 => form_indirect(mode.d.wrapping_mul(2), length, r.x, view),
         Format::A4 => form_indirect(
             base_of(r, mode.m).wrapping_add(mode.d.wrapping_mul(2)),
             length,
-            r,
+            r.x,
             view,
         ),
         Format::A5 => Ok(
@@ -71,6 +77,7 @@ pub(crate) fn form<S: Store>(
 
 // The item that an instruction works on. Mode, registers and view stay three parameters: as one value their clause would be
 // `operand T.item self.now.mode self.now.registers` over `sight_of self.now.view.now`.
+#[inline(always)]
 pub(crate) fn operand<T: Item, S: Store>(
     mode: Mode,
     r: Registers,

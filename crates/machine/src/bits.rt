@@ -2,10 +2,11 @@ ghost use Rattle.std.specs.Prelude.{◌≡◌, ◌<◌};
 ghost use Rattle.std.specs.Option.{ok_or};
 ghost use Rattle.access.specs.Access.{Sight};
 ghost use Rattle.access.specs.declared.stop.Cause.TheVariants.{Undefined};
-ghost use Rattle.machine.specs.Act.{perform};
+ghost use Rattle.machine.specs.Act.{perform, settled, to_write};
+ghost use Rattle.machine.specs.Registers.{advanced};
 ghost use Rattle.machine.specs.Bits.{altered, bit_done, controlled, ends_zero, mask, operation};
 
-use crate::effect::{Effect, quiet};
+use crate::pending::Pending;
 use crate::registers::Registers;
 use access::Cause;
 
@@ -24,6 +25,7 @@ impl TryFrom<u8> for Operation {
 
     ghost try_from_gives = { λ high result. result ≡ ok_or (operation high) Undefined };
 
+    #[inline(always)]
     fn try_from(high: u8) -> Result<Operation, Cause> {
         match high {
             0 => Ok(Operation::Test),
@@ -38,6 +40,7 @@ impl TryFrom<u8> for Operation {
 
 // Here and below a bit is asked to be one of sixteen and has no type of its own: the one caller takes it from a half byte, where the bound
 // computes.
+#[inline(always)]
 fn mask_of(bit: u8) -> u16
     requires { bit < 16 }
     ensures { result ≡ mask bit }
@@ -45,6 +48,7 @@ fn mask_of(bit: u8) -> u16
     0x8000 >> bit
 }
 
+#[inline(always)]
 fn alter(operation: Operation, al: u16, bit: u8) -> u16
     requires { bit < 16 }
     ensures { result ≡ altered operation al bit }
@@ -59,6 +63,7 @@ fn alter(operation: Operation, al: u16, bit: u8) -> u16
     }
 }
 
+#[inline(always)]
 fn is_zero(operation: Operation, al: u16, bit: u8) -> bool
     requires { bit < 16 }
     ensures { result ≡ ends_zero operation al bit }
@@ -71,6 +76,7 @@ fn is_zero(operation: Operation, al: u16, bit: u8) -> bool
     }
 }
 
+#[inline(always)]
 fn operate(operation: Operation, bit: u8, r: Registers) -> Registers
     requires { bit < 16 }
     ensures { result ≡ bit_done operation bit r }
@@ -84,9 +90,11 @@ fn operate(operation: Operation, bit: u8, r: Registers) -> Registers
 }
 
 // The control byte has the operation in its high half and the bit's number in its low half.
-pub(crate) fn control(byte: u8, r: Registers) -> Result<Effect, Cause>
-    ensures { (v : Sight) → result ≡ perform v (controlled byte r) }
+pub(crate) fn control(byte: u8, registers: &mut Registers) -> Result<Option<Pending>, Cause>
+    ensures answers { (v : Sight) → result ≡ to_write (perform v (controlled byte (advanced registers.old))) }
+    ensures registers { (v : Sight) → registers.new ≡ settled registers.old (perform v (controlled byte (advanced registers.old))) }
 {
     let operation = Operation::try_from(byte / 16)?;
-    Ok(quiet(operate(operation, byte % 16, r)))
+    *registers = operate(operation, byte % 16, registers.at_next());
+    Ok(None)
 }

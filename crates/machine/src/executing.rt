@@ -1,14 +1,16 @@
 ghost use Rattle.std.specs.Prelude.{◌≡◌, ◌+◌, ◌%◌};
+ghost use Rattle.machine.specs.Act.{settled, to_write};
 ghost use Rattle.machine.specs.Instructions.{branched, branched_on_overflow, does};
+ghost use Rattle.machine.specs.Registers.{advanced};
 
 use crate::bits::control;
-use crate::effect::{Effect, quiet};
 use crate::loads::*;
 use crate::mode::Mode;
+use crate::pending::Pending;
 use crate::pointers::*;
 use crate::products::*;
 use crate::registers::Registers;
-use crate::stores::store;
+use crate::stores::*;
 use crate::strings::{compare, end_string, move_byte, move_half, move_nearer, scan, translate};
 use crate::sums::*;
 use access::{Cause, View};
@@ -16,23 +18,29 @@ use code::Name;
 use store::Store;
 use word::arithmetic::{add, multiply, subtract};
 
-fn branch(taken: bool, d: u16, r: Registers) -> Registers
-    ensures { result ≡ branched taken d r }
+#[inline(always)]
+fn branch(taken: bool, d: u16, registers: &mut Registers)
+    ensures { registers.new ≡ branched taken d (advanced registers.old) }
 {
-    if taken { r.jump(d) } else { r }
-}
-
-// Clears OF where it is taken.
-fn branch_on_overflow(d: u16, r: Registers) -> Registers
-    ensures { result ≡ branched_on_overflow d r }
-{
-    if r.of {
-        Registers { of: false, ..r }.jump(d)
-    } else {
-        r
+    registers.advance();
+    if taken {
+        registers.jump(d);
     }
 }
 
+// Clears OF where it is taken.
+#[inline(always)]
+fn branch_on_overflow(d: u16, registers: &mut Registers)
+    ensures { registers.new ≡ branched_on_overflow d (advanced registers.old) }
+{
+    registers.advance();
+    if registers.of {
+        registers.of = false;
+        registers.jump(d);
+    }
+}
+
+#[inline(always)]
 fn low_byte(d: u16) -> u8
     ensures { result ≡ d % 256 }
 {
@@ -40,83 +48,149 @@ fn low_byte(d: u16) -> u8
     low
 }
 
+#[inline(always)]
 fn indexed(d: u16, x: u16) -> u8
     ensures { result ≡ (d + x) % 256 }
 {
     low_byte(d.wrapping_add(x))
 }
 
-// The instruction of that name; S is at the next one. What takes an operand from the store is a function of its own: as a line here
-// each proves too, and a record takes about a tenth longer, since the locals of all are then made ready at each step.
+// The instruction of that name, with S at the next one. The registers are changed where they are, and a stop leaves them as they were;
+// what the instruction has yet to write goes up.
 pub fn execute<S: Store>(
     name: Name,
     mode: Mode,
-    r: Registers,
+    registers: &mut Registers,
     view: &View<S>,
-) -> Result<Effect, Cause>
-    ensures { result ≡ does name mode r view.now.bay view.now.bytes }
+) -> Result<Option<Pending>, Cause>
+    ensures answers { result ≡ to_write (does name mode (advanced registers.old) view.now.bay view.now.bytes) }
+    ensures registers { registers.new ≡ settled registers.old (does name mode (advanced registers.old) view.now.bay view.now.bytes) }
 {
     let d = mode.d;
+    let x = registers.x;
     let literal = u32::from(d);
     match name {
-        Name::Ldb => ldb(mode, r, view),
-        Name::Ld => ld(mode, r, view),
-        Name::Ldw => ldw(mode, r, view),
-        Name::Ldx => ldx(mode, r, view),
-        Name::Stb => store(mode, r, r.low_byte(), r.mark_byte(), view),
-        Name::St => store(mode, r, r.low_half(), r.mark_half(), view),
-        Name::Stw => store(mode, r, r.a, r.mark_full(), view),
-        Name::Stx => store(mode, r, r.x, r.mark_x(), view),
-        Name::Ad => ad(mode, r, view),
-        Name::Adw => adw(mode, r, view),
-        Name::Sb => sb(mode, r, view),
-        Name::Sbw => sbw(mode, r, view),
-        Name::Adx => adx(mode, r, view),
-        Name::Sbx => sbx(mode, r, view),
-        Name::Cp => cp(mode, r, view),
-        Name::Cpw => cpw(mode, r, view),
-        Name::Cpx => cpx(mode, r, view),
-        Name::Nw => nw(mode, r, view),
-        Name::Nx => nx(mode, r, view),
-        Name::Mx => mx(mode, r, view),
-        Name::Dx => dx(mode, r, view),
-        Name::Ldy => ldy(mode, r, view),
-        Name::Sty => store(mode, r, r.y, r, view),
-        Name::Ady => ady(mode, r, view),
-        Name::Sby => sby(mode, r, view),
-        Name::Ldz => ldz(mode, r, view),
-        Name::Stz => store(mode, r, r.z, r, view),
-        Name::Adz => adz(mode, r, view),
-        Name::Sbz => sbz(mode, r, view),
-        Name::Bi => bi(mode, r, view),
-        Name::Bli => bli(mode, r, view),
-        Name::Ldl => Ok(quiet(r.load_a(literal))),
-        Name::Adl => Ok(quiet(r.compute_a(add(r.a, literal)))),
-        Name::Sbl => Ok(quiet(r.compute_a(subtract(r.a, literal)))),
-        Name::Cpl => Ok(quiet(r.mark(subtract(r.a, literal)))),
-        Name::Nl => Ok(quiet(r.load_a(r.a & literal))),
-        Name::Ml => Ok(quiet(r.compute_a(multiply(r.a, literal, r.ca)))),
-        Name::Bitx => control(indexed(d, r.x), r),
-        Name::Bz => Ok(quiet(branch(r.zr, d, r))),
-        Name::Bnz => Ok(quiet(branch(!r.zr, d, r))),
-        Name::Bn => Ok(quiet(branch(r.n, d, r))),
-        Name::Bnn => Ok(quiet(branch(!r.n, d, r))),
-        Name::Bca => Ok(quiet(branch(r.ca, d, r))),
-        Name::Bof => Ok(quiet(branch_on_overflow(d, r))),
-        Name::B => Ok(quiet(r.jump(d))),
-        Name::Bl => Ok(quiet(r.link().jump(d))),
-        Name::Mbs | Name::Cpbs | Name::Trbs | Name::Scbs | Name::Mhs if r.x == 0 => Ok(quiet(
-            end_string(r),
-        )),
-        Name::Mbs => move_byte(r, move_nearer(r.x), view),
-        Name::Cpbs => compare(r, move_nearer(r.x), view),
-        Name::Trbs => translate(r, move_nearer(r.x), view),
-        Name::Scbs => scan(r, move_nearer(r.x), view),
-        Name::Mhs => move_half(r, move_nearer(r.x), view),
-        Name::Rk | Name::Sfn => Ok(quiet(r.load_a(0))),
+        Name::Ldb => ldb(mode, registers, view),
+        Name::Ld => ld(mode, registers, view),
+        Name::Ldw => ldw(mode, registers, view),
+        Name::Ldx => ldx(mode, registers, view),
+        Name::Stb => stb(mode, registers, view),
+        Name::St => st(mode, registers, view),
+        Name::Stw => stw(mode, registers, view),
+        Name::Stx => stx(mode, registers, view),
+        Name::Ad => ad(mode, registers, view),
+        Name::Adw => adw(mode, registers, view),
+        Name::Sb => sb(mode, registers, view),
+        Name::Sbw => sbw(mode, registers, view),
+        Name::Adx => adx(mode, registers, view),
+        Name::Sbx => sbx(mode, registers, view),
+        Name::Cp => cp(mode, registers, view),
+        Name::Cpw => cpw(mode, registers, view),
+        Name::Cpx => cpx(mode, registers, view),
+        Name::Nw => nw(mode, registers, view),
+        Name::Nx => nx(mode, registers, view),
+        Name::Mx => mx(mode, registers, view),
+        Name::Dx => dx(mode, registers, view),
+        Name::Ldy => ldy(mode, registers, view),
+        Name::Sty => sty(mode, registers, view),
+        Name::Ady => ady(mode, registers, view),
+        Name::Sby => sby(mode, registers, view),
+        Name::Ldz => ldz(mode, registers, view),
+        Name::Stz => stz(mode, registers, view),
+        Name::Adz => adz(mode, registers, view),
+        Name::Sbz => sbz(mode, registers, view),
+        Name::Bi => bi(mode, registers, view),
+        Name::Bli => bli(mode, registers, view),
+        Name::Bitx => control(indexed(d, x), registers),
+        Name::Bitl => control(low_byte(d), registers),
+        Name::Mbs | Name::Cpbs | Name::Trbs | Name::Scbs | Name::Mhs if x == 0 => {
+            *registers = end_string(registers.at_next());
+            Ok(None)
+        }
+        Name::Mbs => move_byte(registers, move_nearer(x), view),
+        Name::Cpbs => compare(registers, move_nearer(x), view),
+        Name::Trbs => translate(registers, move_nearer(x), view),
+        Name::Scbs => scan(registers, move_nearer(x), view),
+        Name::Mhs => move_half(registers, move_nearer(x), view),
         Name::Hrk => Err(Cause::Halt),
-        Name::Sim => Ok(quiet(Registers { fm: false, ..r })),
-        Name::Sfm => Ok(quiet(Registers { fm: true, ..r })),
-        Name::Bitl => control(low_byte(d), r),
+        Name::Ldl => {
+            registers.advance();
+            registers.load_a(literal);
+            Ok(None)
+        }
+        Name::Adl => {
+            registers.advance();
+            registers.compute_a(add(registers.a, literal));
+            Ok(None)
+        }
+        Name::Sbl => {
+            registers.advance();
+            registers.compute_a(subtract(registers.a, literal));
+            Ok(None)
+        }
+        Name::Cpl => {
+            registers.advance();
+            registers.mark(subtract(registers.a, literal));
+            Ok(None)
+        }
+        Name::Nl => {
+            registers.advance();
+            registers.load_a(registers.a & literal);
+            Ok(None)
+        }
+        Name::Ml => {
+            registers.advance();
+            registers.compute_a(multiply(registers.a, literal, registers.ca));
+            Ok(None)
+        }
+        Name::Bz => {
+            branch(registers.zr, d, registers);
+            Ok(None)
+        }
+        Name::Bnz => {
+            branch(!registers.zr, d, registers);
+            Ok(None)
+        }
+        Name::Bn => {
+            branch(registers.n, d, registers);
+            Ok(None)
+        }
+        Name::Bnn => {
+            branch(!registers.n, d, registers);
+            Ok(None)
+        }
+        Name::Bca => {
+            branch(registers.ca, d, registers);
+            Ok(None)
+        }
+        Name::Bof => {
+            branch_on_overflow(d, registers);
+            Ok(None)
+        }
+        Name::B => {
+            branch(true, d, registers);
+            Ok(None)
+        }
+        Name::Bl => {
+            registers.advance();
+            registers.link();
+            registers.jump(d);
+            Ok(None)
+        }
+        Name::Rk | Name::Sfn => {
+            registers.advance();
+            registers.load_a(0);
+            Ok(None)
+        }
+        Name::Sim => {
+            registers.advance();
+            registers.fm = false;
+            Ok(None)
+        }
+        Name::Sfm => {
+            registers.advance();
+            registers.fm = true;
+            Ok(None)
+        }
     }
 }

@@ -3,10 +3,10 @@
 
 mod address;
 mod bits;
-mod effect;
 mod executing;
 mod loads;
 mod mode;
+mod pending;
 mod pointers;
 mod products;
 mod registers;
@@ -16,7 +16,7 @@ mod strings;
 mod sums;
 
 pub use address::at_place;
-pub use effect::{Effect, Pending};
 pub use executing::execute;
 pub use mode::Mode;
+pub use pending::Pending;
 pub use registers::Registers;

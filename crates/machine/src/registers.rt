@@ -24,6 +24,7 @@ pub struct Registers {
 
 impl Registers {
     // The lowest byte of A.
+    #[inline(always)]
     pub(crate) fn low_byte(self) -> u8
         ensures { result ≡ self.a % 256 }
     {
@@ -32,83 +33,16 @@ impl Registers {
     }
 
     // AL, the low half of A. By a remainder: the library parts a fullword into bytes and not into halves.
+    #[inline(always)]
     pub(crate) fn low_half(self) -> u16
         ensures { result ≡ self.a % 65536 }
     {
         (self.a % 65536) as u16
     }
 
-    // N tells the sign of a value, and ZR whether it is zero.
-    pub(crate) fn sign<R: Register>(self, value: R) -> Registers
-        ensures { result ≡ signed R.width self (R.bits value) }
-    {
-        Registers {
-            n: value.signed() < 0,
-            zr: value.unsigned() == 0,
-            ..self
-        }
-    }
-
-    // Loading and computing are said of A and of X apart: a type parameter names no field.
-    pub(crate) fn load_a(self, value: u32) -> Registers
-        ensures { result ≡ loaded_a self value }
-    {
-        Registers {
-            a: value,
-            ..self.sign(value)
-        }
-    }
-
-    pub(crate) fn load_x(self, value: u16) -> Registers
-        ensures { result ≡ loaded_x self value }
-    {
-        Registers {
-            x: value,
-            ..self.sign(value)
-        }
-    }
-
-    pub(crate) fn mark<T: Copy>(self, outcome: Outcome<T>) -> Registers
-        ensures { result ≡ marked self outcome }
-    {
-        Registers {
-            n: outcome.negative,
-            zr: outcome.zero,
-            of: self.of || outcome.overflow,
-            ca: outcome.carry,
-            ..self
-        }
-    }
-
-    pub(crate) fn compute_a(self, outcome: Outcome<u32>) -> Registers
-        ensures { result ≡ computed_a self outcome }
-    {
-        Registers {
-            a: outcome.value,
-            ..self.mark(outcome)
-        }
-    }
-
-    pub(crate) fn compute_x(self, outcome: Outcome<u16>) -> Registers
-        ensures { result ≡ computed_x self outcome }
-    {
-        Registers {
-            x: outcome.value,
-            ..self.mark(outcome)
-        }
-    }
-
-    pub(crate) fn divide_x(self, quotient: Option<u16>) -> Registers
-        ensures { result ≡ divided self quotient }
-    {
-        match quotient {
-            Some(q) => self.load_x(q),
-            None => Registers { of: true, ..self },
-        }
-    }
-
-    // S at the next instruction.
-    pub fn advance(self) -> Registers
+    // The registers with S at the next instruction.
+    #[inline(always)]
+    pub(crate) fn at_next(self) -> Registers
         ensures { result ≡ advanced self }
     {
         Registers {
@@ -117,20 +51,89 @@ impl Registers {
         }
     }
 
-    // A branch by so many halfwords.
-    pub(crate) fn jump(self, d: u16) -> Registers
-        ensures { result ≡ jumped self d }
+    // S goes to the next instruction.
+    #[inline(always)]
+    pub(crate) fn advance(&mut self)
+        ensures { self.new ≡ advanced self.old }
     {
-        Registers {
-            s: self.s.wrapping_add(d.wrapping_mul(2)),
-            ..self
+        self.s = self.s.wrapping_add(2);
+    }
+
+    // N tells the sign of a value, and ZR whether it is zero.
+    #[inline(always)]
+    pub(crate) fn sign<R: Register>(&mut self, value: R)
+        ensures { self.new ≡ signed R.width self.old (R.bits value) }
+    {
+        self.n = value.signed() < 0;
+        self.zr = value.unsigned() == 0;
+    }
+
+    // Loading and computing are said of A and of X apart: a type parameter names no field.
+    #[inline(always)]
+    pub(crate) fn load_a(&mut self, value: u32)
+        ensures { self.new ≡ loaded_a self.old value }
+    {
+        self.a = value;
+        self.sign(value);
+    }
+
+    #[inline(always)]
+    pub(crate) fn load_x(&mut self, value: u16)
+        ensures { self.new ≡ loaded_x self.old value }
+    {
+        self.x = value;
+        self.sign(value);
+    }
+
+    #[inline(always)]
+    pub(crate) fn mark<T: Copy>(&mut self, outcome: Outcome<T>)
+        ensures { self.new ≡ marked self.old outcome }
+    {
+        self.n = outcome.negative;
+        self.zr = outcome.zero;
+        self.of = self.of || outcome.overflow;
+        self.ca = outcome.carry;
+    }
+
+    #[inline(always)]
+    pub(crate) fn compute_a(&mut self, outcome: Outcome<u32>)
+        ensures { self.new ≡ computed_a self.old outcome }
+    {
+        self.a = outcome.value;
+        self.mark(outcome);
+    }
+
+    #[inline(always)]
+    pub(crate) fn compute_x(&mut self, outcome: Outcome<u16>)
+        ensures { self.new ≡ computed_x self.old outcome }
+    {
+        self.x = outcome.value;
+        self.mark(outcome);
+    }
+
+    #[inline(always)]
+    pub(crate) fn divide_x(&mut self, quotient: Option<u16>)
+        ensures { self.new ≡ divided self.old quotient }
+    {
+        match quotient {
+            Some(q) => self.load_x(q),
+            None => self.of = true,
         }
     }
 
-    // S into Z, for the way back.
-    pub(crate) fn link(self) -> Registers
-        ensures { result ≡ linked self }
+    // A branch by so many halfwords.
+    #[inline(always)]
+    pub(crate) fn jump(&mut self, d: u16)
+        ensures { self.new ≡ jumped self.old d }
     {
-        Registers { z: self.s, ..self }
+        self.s = self.s.wrapping_add(d.wrapping_mul(2));
+    }
+
+    // S into Z, for the way back.
+    #[inline(always)]
+    pub(crate) fn link(&mut self)
+        ensures { self.new ≡ linked self.old }
+    {
+        self.z = self.s;
     }
 }

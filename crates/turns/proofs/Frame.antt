@@ -10,7 +10,7 @@ use Rattle.access.specs.declared.stop.Denial.{Denial}
 use Rattle.access.specs.declared.stop.Place.{Place}
 use Rattle.machine.specs.Act.{Act, done, fail, pending, perform, still, store, ◌>>=◌}
 use Rattle.machine.specs.Plan.{obey, placed}
-use Rattle.machine.specs.declared.effect.Effect.{Effect}
+use Rattle.machine.specs.Act.{Effect}
 use Rattle.machine.specs.declared.registers.Registers.{Registers}
 use Rattle.turns.specs.Laws.{Only, among, item_bytes, operand_granted, target}
 use Rattle.turns.specs.Step.{bytes_after, committed, half_into, into, planned, stepped, stopped}

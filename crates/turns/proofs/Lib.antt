@@ -1,3 +1,4 @@
+mod Settling
 mod Turns
 pub mod Split
 pub mod Frame

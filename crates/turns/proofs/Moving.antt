@@ -21,7 +21,7 @@ use Rattle.machine.specs.Plan.{fetch, obey, placed}
 use Rattle.machine.specs.Registers.{advanced, minus, plus, with_s, with_x}
 use Rattle.machine.specs.Strings.{again, complete, moved, nearer, passed, string}
 use Rattle.machine.specs.Strings as strings
-use Rattle.machine.specs.declared.effect.Effect.{Effect}
+use Rattle.machine.specs.Act.{Effect}
 use Rattle.machine.specs.declared.mode.Mode.{Mode}
 use Rattle.machine.specs.declared.registers.Registers.{Registers}
 use Rattle.turns.specs.Laws.{Apart, Each, Movable, MovesBytes, MovesHalfwords, Readable, Writable, copied, elements, places, value}

@@ -4,7 +4,7 @@ use Rattle.code.specs.declared.reading.Reading.{Reading}
 use Rattle.access.specs.Access.{sight}
 use Rattle.access.specs.declared.bay.Bay.{Bay}
 use Rattle.access.specs.declared.stop.Stop.{Stop}
-use Rattle.machine.specs.declared.effect.Effect.{Effect}
+use Rattle.machine.specs.Act.{Effect}
 use Rattle.machine.specs.declared.registers.Registers.{Registers}
 use Rattle.turns.specs.Laws.{Split, later, unless}
 use Rattle.turns.specs.Step.{committed, stepped}

@@ -1,7 +1,7 @@
 -- A stop alters nothing.
 use Rattle.std.proofs.Common.{◌≡◌, ℕ, List, Ok, Err, Result, sym, subst}
 use Rattle.access.specs.declared.stop.Stop.{Stop}
-use Rattle.machine.specs.declared.effect.Effect.{Effect}
+use Rattle.machine.specs.Act.{Effect}
 use Rattle.machine.specs.declared.registers.Registers.{Registers}
 use Rattle.turns.specs.Laws.{Unaltered}
 use Rattle.turns.specs.Step.{answer, bytes_after, registers_after}

@@ -15,9 +15,9 @@ use Rattle.machine.specs.Act.{Act, fail, perform, ◌>>=◌}
 use Rattle.machine.specs.Instructions.{executed}
 use Rattle.machine.specs.Plan.{fetch}
 use Rattle.machine.specs.Registers.{advanced}
-use Rattle.machine.specs.declared.effect.Effect.{Effect}
-use Rattle.machine.specs.declared.effect.Pending.{Pending}
-use Rattle.machine.specs.declared.effect.Pending.TheVariants.{Byte, Half, Full}
+use Rattle.machine.specs.Act.{Effect}
+use Rattle.machine.specs.declared.pending.Pending.{Pending}
+use Rattle.machine.specs.declared.pending.Pending.TheVariants.{Byte, Half, Full}
 use Rattle.machine.specs.declared.mode.Mode.{Mode}
 use Rattle.machine.specs.declared.registers.Registers.{Registers}
 

@@ -1,24 +1,27 @@
 ghost use Rattle.access.specs.Access.{sight, sight_of};
 ghost use Rattle.access.specs.Stops.{told_of};
 ghost use Rattle.book.specs.Readings.{reading};
-ghost use Rattle.machine.specs.Act.{perform};
+ghost use Rattle.machine.specs.Act.{perform, settled, to_write};
+ghost use Rattle.machine.specs.Registers.{advanced};
 ghost use Rattle.turns.specs.Laws.{Local, Only, Unaltered, operand_granted};
 ghost use Rattle.turns.specs.Step.{answer, begun, bytes_after, committed, defined, format_a, half_into, planned, registers_after, stepped, stopped};
 ghost use Rattle.std.specs.Prelude.{◌≡◌};
 
-use access::{Bay, Cause, Item, Place, Stop, View};
+use access::{Bay, Cause, Place, Reach, Stop, View};
 use book::Book;
 use code::{Format, Name, Reading};
-use machine::{Effect, Mode, Pending, Registers, at_place, execute};
+use machine::{Mode, Pending, Registers, at_place, execute};
 use store::Store;
 
 // A cause goes up with the address of the instruction.
+#[inline(always)]
 fn at_address<T>(address: u16, res: Result<T, Cause>) -> Result<T, Stop>
     ensures { result ≡ stopped address res }
 {
     res.map_err(|cause| Stop { cause, address })
 }
 
+#[inline(always)]
 fn is_format_a(format: Format) -> bool
     ensures { result ≡ format_a format }
 {
@@ -28,23 +31,31 @@ fn is_format_a(format: Format) -> bool
     )
 }
 
+#[inline(always)]
 fn obey_defined<S: Store>(
     name: Name,
     mode: Mode,
-    r: Registers,
+    registers: &mut Registers,
     view: &View<S>,
-) -> Result<Effect, Cause>
-    ensures { result ≡ perform (sight_of view.now) (defined name mode r) }
+) -> Result<Option<Pending>, Cause>
+    ensures answers { result ≡ to_write (perform (sight_of view.now) (defined name mode (advanced registers.old))) }
+    ensures registers { registers.new ≡ settled registers.old (perform (sight_of view.now) (defined name mode (advanced registers.old))) }
 {
-    if is_format_a(mode.format) && r.fm {
+    if is_format_a(mode.format) && registers.fm {
         return Err(Cause::Floating);
     }
-    execute(name, mode, r, view)
+    execute(name, mode, registers, view)
 }
 
-// What a word reads as is obeyed; S is at the next one.
-fn obey_reading<S: Store>(reading: Reading, r: Registers, view: &View<S>) -> Result<Effect, Cause>
-    ensures { result ≡ perform (sight_of view.now) (begun reading r) }
+// What a word reads as is obeyed, with S at the next one.
+#[inline(always)]
+fn obey_reading<S: Store>(
+    reading: Reading,
+    registers: &mut Registers,
+    view: &View<S>,
+) -> Result<Option<Pending>, Cause>
+    ensures answers { result ≡ to_write (perform (sight_of view.now) (begun reading (advanced registers.old))) }
+    ensures registers { registers.new ≡ settled registers.old (perform (sight_of view.now) (begun reading (advanced registers.old))) }
 {
     match reading {
         Reading::NoPattern => Err(Cause::NoPattern),
@@ -56,25 +67,26 @@ fn obey_reading<S: Store>(reading: Reading, r: Registers, view: &View<S>) -> Res
                 m,
                 d: d.cast_unsigned(),
             },
-            r,
+            registers,
             view,
         ),
     }
 }
 
-fn plan<S: Store>(book: &Book, r: Registers, view: &View<S>) -> Result<Effect, Cause>
-    ensures { result ≡ perform (sight_of view.now) (planned (reading book.now.tables) r) }
+#[inline(always)]
+fn obey_word<S: Store>(
+    book: &Book,
+    registers: &mut Registers,
+    view: &View<S>,
+) -> Result<Option<Pending>, Cause>
+    ensures answers { result ≡ to_write (perform (sight_of view.now) (planned (reading book.now.tables) registers.old)) }
+    ensures registers { registers.new ≡ settled registers.old (perform (sight_of view.now) (planned (reading book.now.tables) registers.old)) }
 {
-    let word = at_place(Place::Fetch, u16::read(view, r.s))?;
-    obey_reading(book.reading(word), r.advance(), view)
+    let word = at_place(Place::Fetch, view.fetch(registers.s))?;
+    obey_reading(book.reading(word), registers, view)
 }
 
-fn attempt<S: Store>(book: &Book, r: Registers, store: &S, bay: &Bay) -> Result<Effect, Stop>
-    ensures { result ≡ stepped (reading book.now.tables) r (sight bay.now (S.Store.bytes store.now)) }
-{
-    at_address(r.s, plan(book, r, &View::new(store, bay)))
-}
-
+#[inline(always)]
 fn write_half<S: Store>(store: &mut S, at: u16, value: u16)
     ensures bytes { S.Store.bytes store.new ≡ half_into (S.Store.bytes store.old) at value }
     ensures footing { S.Store.footing store.new ≡ S.Store.footing store.old }
@@ -84,6 +96,7 @@ fn write_half<S: Store>(store: &mut S, at: u16, value: u16)
     store.write(at.wrapping_add(1), low);
 }
 
+#[inline(always)]
 fn commit<S: Store>(store: &mut S, pending: Option<Pending>)
     ensures bytes { S.Store.bytes store.new ≡ committed (S.Store.bytes store.old) pending }
     ensures footing { S.Store.footing store.new ≡ S.Store.footing store.old }
@@ -102,20 +115,21 @@ fn commit<S: Store>(store: &mut S, pending: Option<Pending>)
 
 // The equations of a step, without its laws. Book, registers, store and bay stay four parameters: a hall holds each of them in
 // another place, so that one value of the four would be made for each call, and each clause would name its fields.
+#[inline(always)]
 pub(crate) fn obey_next<S: Store>(
     book: &Book,
     registers: &mut Registers,
     store: &mut S,
-    bay: &Bay,
+    reach: &Reach,
 ) -> Result<(), Stop>
-    ensures answers { result ≡ answer (stepped (reading book.now.tables) registers.old (sight bay.now (S.Store.bytes store.old))) }
-    ensures registers { registers.new ≡ registers_after registers.old (stepped (reading book.now.tables) registers.old (sight bay.now (S.Store.bytes store.old))) }
-    ensures bytes { S.Store.bytes store.new ≡ bytes_after (S.Store.bytes store.old) (stepped (reading book.now.tables) registers.old (sight bay.now (S.Store.bytes store.old))) }
+    ensures answers { result ≡ answer (stepped (reading book.now.tables) registers.old (sight reach.now (S.Store.bytes store.old))) }
+    ensures registers { registers.new ≡ registers_after registers.old (stepped (reading book.now.tables) registers.old (sight reach.now (S.Store.bytes store.old))) }
+    ensures bytes { S.Store.bytes store.new ≡ bytes_after (S.Store.bytes store.old) (stepped (reading book.now.tables) registers.old (sight reach.now (S.Store.bytes store.old))) }
     ensures footing { S.Store.footing store.new ≡ S.Store.footing store.old }
 {
-    let effect = attempt(book, *registers, store, bay)?;
-    *registers = effect.registers;
-    commit(store, effect.pending);
+    let address = registers.s;
+    let res = obey_word(book, registers, &View::new(store, reach));
+    commit(store, at_address(address, res)?);
     Ok(())
 }
 
@@ -135,5 +149,5 @@ pub fn step<S: Store>(
     ensures writes_its_operand { Only (operand_granted (reading book.now.tables) bay.now registers.old (S.Store.bytes store.old)) (S.Store.bytes store.old) (S.Store.bytes store.new) }
     ensures reads_granted_bytes { Local }
 {
-    obey_next(book, registers, store, bay)
+    obey_next(book, registers, store, &Reach::new(bay))
 }

@@ -4,7 +4,7 @@ ghost use Rattle.turns.specs.Turn.{Run, all_spent, run, stopped_after};
 ghost use Rattle.std.specs.Prelude.{◌≡◌};
 
 use crate::stepping::obey_next;
-use access::{Bay, Stop};
+use access::{Bay, Reach, Stop};
 use book::Book;
 use machine::Registers;
 use store::Store;
@@ -36,25 +36,27 @@ impl Turned {
     }
 }
 
+#[inline(always)]
 fn run_steps<S: Store>(
     book: &Book,
     registers: &mut Registers,
     store: &mut S,
-    bay: &Bay,
+    reach: &Reach,
     budget: u16,
 ) -> Turned
-    ensures runs { ◌≡◌ {A = Run} (record { registers = registers.new; bytes = S.Store.bytes store.new; turned = result }) (run (reading book.now.tables) bay.now budget 0 registers.old (S.Store.bytes store.old)) }
+    ensures runs { ◌≡◌ {A = Run} (record { registers = registers.new; bytes = S.Store.bytes store.new; turned = result }) (run (reading book.now.tables) reach.now budget 0 registers.old (S.Store.bytes store.old)) }
     ensures footing { S.Store.footing store.new ≡ S.Store.footing store.old }
 {
     for steps in 0..budget {
-        if let Err(stop) = obey_next(book, registers, store, bay) {
+        if let Err(stop) = obey_next(book, registers, store, reach) {
             return Turned::stopped(steps, stop);
         }
     }
     Turned::spent(budget)
 }
 
-// Steps up to the budget, or up to a stop.
+// Steps up to the budget, or up to a stop. Meanwhile the registers are the turn's own: borrowed ones would go to memory and back at
+// each step.
 pub fn turn<S: Store>(
     book: &Book,
     registers: &mut Registers,
@@ -68,5 +70,8 @@ pub fn turn<S: Store>(
     ensures moves_byte_strings { MovesBytes }
     ensures moves_halfword_strings { MovesHalfwords }
 {
-    run_steps(book, registers, store, bay, budget)
+    let mut own = *registers;
+    let turned = run_steps(book, &mut own, store, &Reach::new(bay), budget);
+    *registers = own;
+    turned
 }

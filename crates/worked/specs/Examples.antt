@@ -19,7 +19,7 @@ use Rattle.machine.specs.Address.{formed}
 use Rattle.machine.specs.Instructions.{does}
 use Rattle.machine.specs.Plan.{obey}
 use Rattle.machine.specs.Registers.{with_a, with_nz, with_of, with_s, with_x, with_y, with_z}
-use Rattle.machine.specs.declared.effect.Effect.{Effect}
+use Rattle.machine.specs.Act.{Effect}
 use Rattle.machine.specs.declared.registers.Registers.{Registers}
 use Rattle.turns.specs.Step.{mode}
 use Rattle.turns.specs.Turn.{run}

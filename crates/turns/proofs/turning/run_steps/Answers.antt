@@ -9,7 +9,7 @@ returns-in-Err g c =
     let e = c.in-Err.ensures in
     record {
       runs = ap (λ t. record { registers = c.obey_next.new.registers; bytes = g.S.Store.bytes c.obey_next.new.store; turned = t }) c.stopped.ensures
-          ∙ sym (run_stops (reading c.args.book.now.tables) c.args.bay.now c.loop-steps.registers _ _ _ _ c.loop-steps.steps _ d e.answers e.registers e.bytes) ∙ c.loop-steps.invariant.0;
+          ∙ sym (run_stops (reading c.args.book.now.tables) c.args.reach.now c.loop-steps.registers _ _ _ _ c.loop-steps.steps _ d e.answers e.registers e.bytes) ∙ c.loop-steps.invariant.0;
       footing = e.footing ∙ c.loop-steps.invariant.1;
     }
 
@@ -18,7 +18,7 @@ loop-steps-preserved g c =
     let n : ℕ = c.args.budget - (c.loop-steps.steps + 1) in
     let d : c.args.budget - c.loop-steps.steps ≡ suc n = omega arith in
     let e = c.in_default.ensures in
-    (sym (run_goes (reading c.args.book.now.tables) c.args.bay.now c.loop-steps.registers _ _ _ n c.loop-steps.steps _ e.answers e.registers e.bytes) ∙ rw d at c.loop-steps.invariant.0, e.footing ∙ c.loop-steps.invariant.1)
+    (sym (run_goes (reading c.args.book.now.tables) c.args.reach.now c.loop-steps.registers _ _ _ n c.loop-steps.steps _ e.answers e.registers e.bytes) ∙ rw d at c.loop-steps.invariant.0, e.footing ∙ c.loop-steps.invariant.1)
 
 pub returns : goal.returns
 returns g c =

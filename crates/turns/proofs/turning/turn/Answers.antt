@@ -1,6 +1,18 @@
+use Rattle.std.proofs.Common.{ap, ◌∙◌}
+use Rattle.access.specs.declared.bay.Bay.{Bay}
+use Rattle.book.specs.Readings.{reading}
+use Rattle.turns.specs.Turn.{run}
 use Rattle.turns.proofs.Moving.{moves_bytes, moves_halfwords}
 use Rattle.turns.proofs.Split.{split}
 use Rattle.turns.proofs.turning.turn.Goals as goal
 
 pub returns : goal.returns
-returns g c = record { runs = c.run_steps.ensures.runs; footing = c.run_steps.ensures.footing; turns_join = split; moves_byte_strings = moves_bytes; moves_halfword_strings = moves_halfwords }
+returns g c =
+    let e = c.run_steps-turned.ensures in
+    record {
+      runs = e.runs ∙ ap (λ (bay : Bay). run (reading c.args.book.now.tables) bay c.args.budget 0 c.args.registers.now (g.S.Store.bytes c.args.store.now)) c.new.ensures;
+      footing = e.footing;
+      turns_join = split;
+      moves_byte_strings = moves_bytes;
+      moves_halfword_strings = moves_halfwords;
+    }

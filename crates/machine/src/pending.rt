@@ -1,7 +1,6 @@
-ghost use Rattle.machine.specs.Act.{pending, still};
+ghost use Rattle.machine.specs.Act.{pending};
 ghost use Rattle.std.specs.Prelude.{◌≡◌};
 
-use crate::registers::Registers;
 use access::Item;
 
 // What a step has yet to write: one item, at its aligned address.
@@ -19,36 +18,22 @@ pub(crate) trait Stored: Item {
 }
 
 impl Stored for u8 {
+    #[inline(always)]
     fn pending(self, at: u16) -> Pending {
         Pending::Byte(at, self)
     }
 }
 
 impl Stored for u16 {
+    #[inline(always)]
     fn pending(self, at: u16) -> Pending {
         Pending::Half(at - at % 2, self)
     }
 }
 
 impl Stored for u32 {
+    #[inline(always)]
     fn pending(self, at: u16) -> Pending {
         Pending::Full(at - at % 4, self)
-    }
-}
-
-// What a step does that can be done: the new registers, and what is written.
-#[derive(Clone, Copy, Debug, PartialEq, Eq)]
-pub struct Effect {
-    pub registers: Registers,
-    pub pending: Option<Pending>,
-}
-
-// New registers, and nothing written.
-pub(crate) fn quiet(registers: Registers) -> Effect
-    ensures { result ≡ still registers }
-{
-    Effect {
-        registers,
-        pending: None,
     }
 }
