@@ -1,7 +1,12 @@
+ghost use Rattle.std.specs.Prelude.{Some};
+ghost use Rattle.access.specs.Shown.{access_written, stop_written};
+
 use crate::stop::{Access, Cause, Stop};
 use std::fmt;
 
 impl fmt::Display for Access {
+    ghost output = { λ access. Some (access_written access) };
+
     fn fmt<W: fmt::Write>(&self, f: &mut fmt::Formatter<W>) -> fmt::Result {
         match self {
             Access::Read => write!(f, "read"),
@@ -10,8 +15,9 @@ impl fmt::Display for Access {
     }
 }
 
-// The cause and the instruction's address; for cause 2 then the place, read or write, and the byte.
 impl fmt::Display for Stop {
+    ghost output = { λ stop. Some (stop_written stop) };
+
     fn fmt<W: fmt::Write>(&self, f: &mut fmt::Formatter<W>) -> fmt::Result {
         let cause = self.cause.number();
         let address = self.address;

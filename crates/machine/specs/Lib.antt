@@ -1,4 +1,5 @@
 pub mod Registers
+pub mod Shown
 pub mod Plan
 pub mod Act
 pub mod Address

@@ -1,8 +1,12 @@
+ghost use Rattle.std.specs.Prelude.{Some};
+ghost use Rattle.machine.specs.Shown.{registers_written};
+
 use crate::registers::Registers;
 use std::fmt;
 
-// The numbers of A B X Y Z S L, and then FM N ZR OF CA as 0 or 1.
 impl fmt::Display for Registers {
+    ghost output = { λ registers. Some (registers_written registers) };
+
     fn fmt<W: fmt::Write>(&self, f: &mut fmt::Formatter<W>) -> fmt::Result {
         let Registers {
             a,
