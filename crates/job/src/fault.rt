@@ -10,7 +10,7 @@ use thiserror::Error;
 pub enum Fault {
     #[error("the line lacks its line feed")]
     Unended,
-    #[error("no such entry (bay, grant, registers, input, output, turns, records, results)")]
+    #[error("no such entry (bay, grant, registers, input, output, turns, records, results); tabs part an entry and its values")]
     Unknown,
     #[error("another number of fields than this entry has")]
     Fields,
