@@ -38,6 +38,12 @@ pub enum Fault {
         bay: u8,
         refusal: Refusal,
     },
+    // Refused for an earlier job, which has that bay.
+    #[error("open of bay {bay} is refused with {}: the bay is taken by an earlier job ({job})", Refusal::Taken.number())]
+    Taken {
+        bay: u8,
+        job: String,
+    },
     #[error("grant {kind} {first} {last} is refused with {}: {refusal}", .refusal.number())]
     Granting {
         kind: &'static str,
@@ -186,13 +192,27 @@ mod tests {
     #[test]
     fn a_refused_opening_is_told_with_its_job(rt: HostRuntime) -> Result<(), Fail> {
         let fault = Fault::Opening {
-            bay: 2,
-            refusal: Refusal::Taken,
+            bay: 9,
+            refusal: Refusal::NoSuchBay,
         };
         let told = Failure::of_file(rt.alloc(), "undo.job", fault).to_string(rt.alloc())?;
         assert_eq!(rt;
             told.as_str(),
-            "undo.job: open of bay 2 is refused with 3: the bay is taken"
+            "undo.job: open of bay 9 is refused with 1: no bay has this number"
+        );
+        Ok(())
+    }
+
+    #[test]
+    fn a_bay_that_is_taken_is_told_with_the_earlier_job(rt: HostRuntime) -> Result<(), Fail> {
+        let fault = Fault::Taken {
+            bay: 1,
+            job: String::from_str(rt.alloc(), "calibrate.job")?,
+        };
+        let told = Failure::of_file(rt.alloc(), "undo.job", fault).to_string(rt.alloc())?;
+        assert_eq!(rt;
+            told.as_str(),
+            "undo.job: open of bay 1 is refused with 3: the bay is taken by an earlier job (calibrate.job)"
         );
         Ok(())
     }

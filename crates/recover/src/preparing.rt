@@ -1,4 +1,4 @@
-ghost use Rattle.recover.specs.Clashes.{first_clash};
+ghost use Rattle.recover.specs.Clashes.{first_clash, first_of_bay};
 ghost use Rattle.std.specs.Option.{option_copied};
 ghost use Rattle.std.specs.Prelude.{◌≡◌};
 
@@ -30,16 +30,42 @@ fn serve<S: Store + Drop>(
     }
 }
 
+// The first of them whose bay has this number.
+fn of_bay<'a, 'b>(institutes: &'a [Institute<'b>], bay: u8) -> Option<&'a Institute<'b>>
+    ensures { option_copied result ≡ first_of_bay bay institutes.now }
+{
+    institutes
+        .iter()
+        .find(|institute| institute.job.number == bay)
+}
+
+// A refused open; a bay that is taken is told with the earlier job that has it.
+fn refused_open(
+    heap: Global,
+    earlier: &[Institute],
+    bay: u8,
+    refusal: Refusal,
+) -> Result<Fault, AllocError> {
+    match of_bay(earlier, bay) {
+        Some(other) if refusal == Refusal::Taken => Ok(Fault::Taken {
+            bay,
+            job: String::from_str(heap, other.name)?,
+        }),
+        _ => Ok(Fault::Opening { bay, refusal }),
+    }
+}
+
 fn open<S: Store + Drop>(
     heap: Global,
     session: &mut Session<S>,
+    earlier: &[Institute],
     institute: &Institute,
 ) -> Result<(), Failure> {
     let bay = institute.job.number;
     match serve(heap, session, bay, Deed::Open)? {
         None => Ok(()),
         Some(refusal) => {
-            let fault = Fault::Opening { bay, refusal };
+            let fault = refused_open(heap, earlier, bay, refusal)?;
             Err(Failure::of_file(heap, institute.name, fault))
         }
     }
@@ -101,7 +127,7 @@ fn prepare<S: Store + Drop>(
     earlier: &[Institute],
     institute: &Institute,
 ) -> Result<(), Failure> {
-    open(heap, session, institute)?;
+    open(heap, session, earlier, institute)?;
     for grant in institute.job.bay.grants.iter().flatten() {
         add_grant(heap, session, earlier, institute, *grant)?;
     }
@@ -176,6 +202,26 @@ mod tests {
         assert_eq!(rt;
             told.as_str(),
             "c.job: grant write 299 400 is refused with 6: it clashes with a grant of bay 5 (b.job)"
+        );
+        Ok(())
+    }
+
+    #[test]
+    fn a_bay_that_is_taken_is_told_with_the_job_that_has_it(rt: HostRuntime) -> Result<(), Fail> {
+        let heap = rt.alloc();
+        let institutes = [
+            institute(&rt, heap, "a.job", FIRST),
+            institute(&rt, heap, "b.job", SECOND),
+            institute(&rt, heap, "c.job", SECOND),
+        ];
+        let mut session = Session::new(Owned::new(zeroed(heap, 65536)?), Book::new());
+        let Err(failure) = prepare_all(heap, &mut session, &institutes) else {
+            panic!(rt; "a bay that is taken");
+        };
+        let told = failure.to_string(heap)?;
+        assert_eq!(rt;
+            told.as_str(),
+            "c.job: open of bay 5 is refused with 3: the bay is taken by an earlier job (b.job)"
         );
         Ok(())
     }
