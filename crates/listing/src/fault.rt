@@ -11,7 +11,7 @@ use thiserror::Error;
 pub enum Fault {
     #[error("the line lacks its line feed")]
     Unended,
-    #[error("the address is no even number from 0 to 65535")]
+    #[error("the address is no even number from 0 to 65535; spaces part the words of a line")]
     Address,
     #[error("the address lies below the end of the line before")]
     Below,
