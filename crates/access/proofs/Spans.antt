@@ -1,9 +1,7 @@
 -- What one grant has, its bay may be asked byte by byte.
 use Rattle.std.proofs.Common.{◌≡◌, ℕ, zero, suc, ◌+◌, ◌%◌, ◌<◌, ◌≤◌, ◌&&◌, ◌||◌, ◌⊎◌, Bool, true, false, List, [], ◌∷◌, Some, None, Ok, Err, Option, Result, refl, sym, ap, ◌∙◌, inl, inr, arith, cond, get_or, slice_index_or, leb}
 use Rattle.std.proofs.lemmas.Bool.Decides.{nat_tests}
-use Rattle.std.specs.List.{list_any, position, position_from}
-use Rattle.std.specs.Option.{is_some}
-use Rattle.std.proofs.lemmas.Iterator.Adapters.{position_from-zero}
+use Rattle.std.specs.List.{list_any}
 use Rattle.word.specs.Bytes as bytes
 use Rattle.access.specs.Access.{allows, bind, checked, covers_all, full_may, half_at, half_may, permits, seen, serves, spans}
 use Rattle.access.specs.declared.bay.Bay.{Bay}
@@ -75,18 +73,6 @@ quad_may bay w at h e =
     let high = pair_may bay w at (at + 1) refl (omega arith) (part bay w at (at + 3) at (at + 1) (omega arith) (omega arith) e) in
     let low = pair_may bay w (at + 2) (at + 3) (omega arith) (omega arith) (part bay w at (at + 3) (at + 2) (at + 3) (omega arith) (omega arith) e) in
     (λ i. bind (high i) (λ _. (low ∙ ap (half_may (checked bay w)) (sym m)) i))
-
--- the place of the first that passes a test tells whether one does
-found_next : {X : Type 0} (p : X → Bool) (i : ℕ) (xs : List X) (b : Bool) → is_some (position_from p (i + 1) xs) ≡ list_any p xs → is_some (cond b (Some i) (position_from p (i + 1) xs)) ≡ b || list_any p xs
-found_next p i xs true e = refl
-found_next p i xs false e = e
-
-found_from : {X : Type 0} (p : X → Bool) (i : ℕ) (xs : List X) → is_some (position_from p i xs) ≡ list_any p xs
-found_from p i [] = refl
-found_from p i (x ∷ xs) = found_next p i xs (p x) (found_from p (i + 1) xs)
-
-pub found_is : {X : Type 0} (p : X → Bool) (xs : List X) → is_some (position p xs) ≡ list_any p xs
-found_is p xs = ap is_some (position_from-zero p xs) ∙ found_from p 0 xs
 
 -- one grant that serves is enough
 served_among : (gs : List (Option Grant)) (i : ℕ) (w : Access) (a b : ℕ) → covers_all (slice_index_or gs i None) w a b ≡ true → list_any (λ g. covers_all g w a b) gs ≡ true

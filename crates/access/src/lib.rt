@@ -3,6 +3,7 @@
 
 mod bay;
 mod item;
+mod places;
 mod reach;
 mod show;
 mod stop;

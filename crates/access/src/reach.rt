@@ -4,36 +4,37 @@ ghost use Rattle.access.specs.declared.stop.Access.TheVariants.{Write};
 ghost use Rattle.std.specs.Prelude.{◌≡◌, ◌<◌};
 
 use crate::bay::Bay;
+use crate::places::Places;
 use crate::stop::{Access, Denial};
-use std::cell::Cell;
 use std::marker::Model;
 
-// A bay as a turn asks it, with the places of the grants that served last: the next instruction, the next item to read and the next to
-// write most often lie there too, and they are asked first.
+// A bay as a turn asks it: of each byte the grant that most likely has it is asked first.
 #[derive(Drop)]
-pub struct Reach<'a> {
-    bay: &'a Bay,
-    pub(crate) code: Cell<usize>,
-    pub(crate) read: Cell<usize>,
-    written: Cell<usize>,
+pub struct Reach {
+    bay: Bay,
+    places: Places,
 }
 
-impl<'a> Model for Reach<'a> {
+impl Model for Reach {
     ghost Value = { Bay };
 
-    ghost view = { λ r. r.bay.now };
+    ghost view = { λ r. r.bay };
 }
 
-impl<'a> Reach<'a> {
-    pub fn new(bay: &'a Bay) -> Reach<'a>
+impl Reach {
+    pub fn new(bay: &Bay) -> Reach
         ensures { result ≡ bay.now }
     {
         Reach {
-            bay,
-            code: Cell::new(0),
-            read: Cell::new(0),
-            written: Cell::new(0),
+            bay: *bay,
+            places: Places::new(&bay.grants),
         }
+    }
+
+    // The place of the grant that most likely has a byte.
+    #[inline(always)]
+    pub(crate) fn near(&self, at: u16) -> usize {
+        self.places.at(at)
     }
 
     // The grant at a place is asked whether it has all of these bytes.
@@ -46,24 +47,22 @@ impl<'a> Reach<'a> {
         )))
     }
 
-    // All grants are asked whether one has all of these bytes, and the place of the first that has them is kept.
-    pub(crate) fn find(&self, near: &Cell<usize>, access: Access, first: u16, last: u16) -> bool
+    // All grants are asked whether one has all of these bytes.
+    pub(crate) fn spans(&self, access: Access, first: u16, last: u16) -> bool
         ensures { result ≡ Rattle.access.specs.Access.spans self.now access first last }
     {
-        let found = self.bay.grants.iter().position(|grant| grant.is_some_and(|grant| grant.covers(
+        self.bay.grants.iter().any(|grant| grant.is_some_and(|grant| grant.covers(
             access, first, last,
-        )));
-        near.set(found.unwrap_or(0));
-        found.is_some()
+        )))
     }
 
     // Here and below what the near grant does not serve is asked for by a function that stays one: inlined, the way of a step would be
     // many times as long.
     #[inline(never)]
-    pub(crate) fn check(&self, near: &Cell<usize>, access: Access, at: u16) -> Result<(), Denial>
+    pub(crate) fn check(&self, access: Access, at: u16) -> Result<(), Denial>
         ensures { result ≡ checked self.now access at }
     {
-        if self.find(near, access, at, at) {
+        if self.spans(access, at, at) {
             Ok(())
         } else {
             Err(Denial { access, byte: at })
@@ -74,10 +73,10 @@ impl<'a> Reach<'a> {
     pub(crate) fn may_write(&self, at: u16) -> Result<(), Denial>
         ensures { result ≡ checked self.now Write at }
     {
-        if self.serves(self.written.get(), Access::Write, at, at) {
+        if self.serves(self.near(at), Access::Write, at, at) {
             return Ok(());
         }
-        self.check(&self.written, Access::Write, at)
+        self.check(Access::Write, at)
     }
 
     #[inline(always)]
@@ -85,7 +84,7 @@ impl<'a> Reach<'a> {
         requires { at < 65535 }
         ensures { result ≡ half_may (checked self.now Write) at }
     {
-        if self.serves(self.written.get(), Access::Write, at, at + 1) {
+        if self.serves(self.near(at), Access::Write, at, at + 1) {
             return Ok(());
         }
         self.may_write_pair_anew(at)
@@ -96,11 +95,11 @@ impl<'a> Reach<'a> {
         requires { at < 65535 }
         ensures { result ≡ half_may (checked self.now Write) at }
     {
-        if self.find(&self.written, Access::Write, at, at + 1) {
+        if self.spans(Access::Write, at, at + 1) {
             return Ok(());
         }
-        self.check(&self.written, Access::Write, at)?;
-        self.check(&self.written, Access::Write, at + 1)
+        self.check(Access::Write, at)?;
+        self.check(Access::Write, at + 1)
     }
 
     #[inline(always)]
@@ -108,7 +107,7 @@ impl<'a> Reach<'a> {
         requires { at < 65533 }
         ensures { result ≡ full_may (checked self.now Write) at }
     {
-        if self.serves(self.written.get(), Access::Write, at, at + 3) {
+        if self.serves(self.near(at), Access::Write, at, at + 3) {
             return Ok(());
         }
         self.may_write_quad_anew(at)
@@ -119,7 +118,7 @@ impl<'a> Reach<'a> {
         requires { at < 65533 }
         ensures { result ≡ full_may (checked self.now Write) at }
     {
-        if self.find(&self.written, Access::Write, at, at + 3) {
+        if self.spans(Access::Write, at, at + 3) {
             return Ok(());
         }
         self.may_write_pair_anew(at)?;

@@ -4,7 +4,6 @@ ghost use Rattle.std.specs.Prelude.{◌≡◌, ◌<◌};
 use crate::item::Item;
 use crate::reach::Reach;
 use crate::stop::{Access, Denial};
-use std::cell::Cell;
 use std::marker::Model;
 use store::Store;
 use word::bytes::{full_of, half_of};
@@ -13,7 +12,7 @@ use word::bytes::{full_of, half_of};
 #[derive(Drop)]
 pub struct View<'a, S: Store> {
     store: &'a S,
-    reach: &'a Reach<'a>,
+    reach: &'a Reach,
 }
 
 impl<'a, S: Store> Model for View<'a, S> {
@@ -26,7 +25,7 @@ impl<'a, S: Store> Model for View<'a, S> {
 
 impl<'a, S: Store> View<'a, S> {
     #[inline(always)]
-    pub fn new(store: &'a S, reach: &'a Reach<'a>) -> View<'a, S>
+    pub fn new(store: &'a S, reach: &'a Reach) -> View<'a, S>
         ensures { result ≡ record { bay = reach.now; bytes = S.Store.bytes store.now } }
     {
         View { store, reach }
@@ -37,9 +36,10 @@ impl<'a, S: Store> View<'a, S> {
         ensures { result ≡ (sight_of self.now).look at }
     {
         let reach = self.reach;
-        if reach.serves(reach.read.get(), Access::Read, at, at) {
+        if reach.serves(reach.near(at), Access::Read, at, at) {
             return Ok(self.store.read(at));
         }
+        // Taken apart, here and below: as it stands it would be made in memory, and so would what the near grant serves.
         Ok(self.byte_anew(at)?)
     }
 
@@ -48,33 +48,8 @@ impl<'a, S: Store> View<'a, S> {
         ensures { result ≡ (sight_of self.now).look at }
     {
         let reach = self.reach;
-        reach.check(&reach.read, Access::Read, at)?;
+        reach.check(Access::Read, at)?;
         Ok(self.store.read(at))
-    }
-
-    #[inline(always)]
-    fn half(&self, near: &Cell<usize>, at: u16) -> Result<u16, Denial>
-        requires { at < 65535 }
-        ensures { result ≡ half_at (sight_of self.now).look at }
-    {
-        if self.reach.serves(near.get(), Access::Read, at, at + 1) {
-            return Ok(half_of(self.store.read(at), self.store.read(at + 1)));
-        }
-        // Taken apart, here and below: as it stands it would be made in memory, where the near grant's halfword is then too.
-        Ok(self.half_anew(near, at)?)
-    }
-
-    #[inline(never)]
-    fn half_anew(&self, near: &Cell<usize>, at: u16) -> Result<u16, Denial>
-        requires { at < 65535 }
-        ensures { result ≡ half_at (sight_of self.now).look at }
-    {
-        if self.reach.find(near, Access::Read, at, at + 1) {
-            return Ok(half_of(self.store.read(at), self.store.read(at + 1)));
-        }
-        let high = self.byte_anew(at)?;
-        let low = self.byte_anew(at + 1)?;
-        Ok(half_of(high, low))
     }
 
     #[inline(always)]
@@ -83,7 +58,23 @@ impl<'a, S: Store> View<'a, S> {
         ensures { result ≡ half_at (sight_of self.now).look at }
     {
         let reach = self.reach;
-        self.half(&reach.read, at)
+        if reach.serves(reach.near(at), Access::Read, at, at + 1) {
+            return Ok(half_of(self.store.read(at), self.store.read(at + 1)));
+        }
+        Ok(self.pair_anew(at)?)
+    }
+
+    #[inline(never)]
+    fn pair_anew(&self, at: u16) -> Result<u16, Denial>
+        requires { at < 65535 }
+        ensures { result ≡ half_at (sight_of self.now).look at }
+    {
+        if self.reach.spans(Access::Read, at, at + 1) {
+            return Ok(half_of(self.store.read(at), self.store.read(at + 1)));
+        }
+        let high = self.byte_anew(at)?;
+        let low = self.byte_anew(at + 1)?;
+        Ok(half_of(high, low))
     }
 
     // A fullword by its halves, both most often under the near grant.
@@ -102,8 +93,7 @@ impl<'a, S: Store> View<'a, S> {
     pub fn fetch(&self, at: u16) -> Result<u16, Denial>
         ensures { result ≡ item_read half (sight_of self.now).fetch at }
     {
-        let reach = self.reach;
-        self.half(&reach.code, at - at % 2)
+        self.pair(at - at % 2)
     }
 
     // Leave to write an item.

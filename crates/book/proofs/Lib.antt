@@ -5,6 +5,7 @@ pub mod Entering
 pub mod Keeping
 pub mod Limits
 pub mod Forth
+pub mod Looked
 pub mod Sole
 pub mod Again
 pub mod Made

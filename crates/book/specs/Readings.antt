@@ -1,4 +1,4 @@
-use Rattle.std.specs.Prelude.{ℕ, ◌/◌, ◌%◌, Bool, false, cond, List, pos, Some, None, Option, ◌==◌, nat_lt, slice_index_or}
+use Rattle.std.specs.Prelude.{ℕ, zero, suc, ◌+◌, ◌/◌, ◌%◌, Bool, false, cond, List, [], ◌∷◌, pos, Some, None, Option, ◌==◌, nat_lt, slice_index_or}
 use Rattle.code.specs.declared.name.Name.{Name}
 use Rattle.code.specs.declared.name.Name.TheVariants.{Bitl}
 use Rattle.code.specs.declared.format.Format.{Format}
@@ -68,3 +68,8 @@ meaning t w = cond (nat_lt w 1024) Undefined (cond (nat_lt w 4096) (in_b (slice_
 -- what a word means under the tables
 unfoldable pub reading : Tables → ℕ → Reading
 reading t w = meaning t w
+
+-- the readings of n successive words
+unfoldable pub readings_from : Tables → ℕ → ℕ → List Reading
+readings_from t w zero = []
+readings_from t w (suc n) = reading t w ∷ readings_from t ((w + 1) % 65536) n

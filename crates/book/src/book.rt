@@ -1,12 +1,27 @@
 ghost use Rattle.std.specs.Prelude.{◌≡◌, true};
+ghost use Rattle.std.specs.Option.{ForSome};
+ghost use Rattle.book.specs.Readings.{readings_from};
 ghost use Rattle.book.specs.Sound.{sound};
 
+use crate::readings::Readings;
 use crate::tables::Tables;
+use std::alloc::Global;
 
 // A code book: which names have which numbers, and how the formats are told apart. It has no model: seen as its
 // tables alone it would hide from proofs that they are sound.
-#[derive(Clone, Copy)]
+#[derive(Drop)]
 pub struct Book {
     pub tables: Tables,
+    pub(crate) readings: Option<Readings>,
     ghost sound: { sound tables ≡ true },
+    ghost tabled: { ForSome readings (λ r. r.held.items ≡ readings_from tables 0 65536) },
+}
+
+impl Book {
+    // From here on a word is looked up, in 384 KiB, and not read anew. Nothing else changes; where there is no memory for it, not even that.
+    pub fn tabulate(&mut self, heap: Global)
+        ensures { self.new.tables ≡ self.old.tables }
+    {
+        self.readings = Readings::of(&self.tables, heap).ok();
+    }
 }

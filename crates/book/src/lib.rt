@@ -7,6 +7,7 @@ mod patterns;
 mod put;
 mod read;
 mod reading;
+mod readings;
 mod refused;
 mod rows;
 mod tables;

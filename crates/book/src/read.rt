@@ -55,6 +55,7 @@ impl Book {
                 patterns: [Some(0b10), Some(0), Some(0b1110), Some(0b110), Some(0b1111)],
                 ..EMPTY
             },
+            readings: None,
         }
     }
 
@@ -63,7 +64,9 @@ impl Book {
         ensures answer { numbered result ≡ told (read_rule text.now) }
         ensures after { self.new.tables ≡ kept self.old.tables (read_rule text.now) }
     {
-        self.tables = read_text(text)?;
+        let tables = read_text(text)?;
+        self.readings = None;
+        self.tables = tables;
         Ok(())
     }
 }

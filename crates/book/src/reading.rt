@@ -116,8 +116,9 @@ fn read_l(tables: &Tables, word: u16) -> Reading
 }
 
 #[inline(always)]
-fn read_word(tables: &Tables, word: u16) -> Reading
-    ensures { result ≡ meaning tables.now word }
+#[tactic(auto, unfolding(crate::specs::Readings::reading))]
+pub(crate) fn read_word(tables: &Tables, word: u16) -> Reading
+    ensures { result ≡ reading tables.now word }
 {
     match word {
         0..=0x03ff => Reading::Undefined,
@@ -131,6 +132,16 @@ fn read_word(tables: &Tables, word: u16) -> Reading
 }
 
 impl Book {
+    #[inline(always)]
+    fn look_up(&self, word: u16) -> Reading
+        ensures { result ≡ reading self.now.tables word }
+    {
+        match &self.readings {
+            Some(readings) => readings.at(word),
+            None => read_word(&self.tables, word),
+        }
+    }
+
     // What a word means under this book: its one layout, if it has any.
     #[inline(always)]
     pub fn reading(&self, word: u16) -> Reading
@@ -139,6 +150,6 @@ impl Book {
         ensures sole { Sole self.now.tables word result }
         ensures again { Backs self.now.tables word result }
     {
-        read_word(&self.tables, word)
+        self.look_up(word)
     }
 }

@@ -9,7 +9,7 @@ use thiserror::Error;
 // What is wrong with a text that should be a code book.
 #[derive(Clone, Copy, PartialEq, Eq, Debug, Error)]
 pub enum Fault {
-    #[error("not just three fields, or no line feed")]
+    #[error("not just three fields parted by tabs, or no line feed")]
     Fields = 11,
     #[error("no such letter, or no such name of the letter")]
     Name = 12,

@@ -25,6 +25,7 @@ pub fn read_book(rt: &HostRuntime, name: &str) -> Result<Book, Failure> {
     let text = read_file(rt, name)?;
     let mut book = Book::new();
     book.read(&text).map_err(|refused| Failure::of_file(rt.alloc(), name, Fault::Book(refused)))?;
+    book.tabulate(rt.alloc());
     Ok(book)
 }
 

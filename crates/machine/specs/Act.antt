@@ -28,9 +28,13 @@ pending byte at v = Byte at v
 pending half at v = Half (aligned half at) v
 pending full at v = Full (aligned full at) v
 
+-- leave to write an item, and what is then to be written
+abbrev pub claimed : Sight → Item → ℕ → ℕ → Result Pending Cause
+claimed v i at w = bind (placed Operand (item_may i v.may at)) (λ _. Ok (pending i at w))
+
 abbrev pub perform : Sight → Act → Result Effect Cause
 perform v (done r) = Ok (still r)
-perform v (store i at w r) = bind (placed Operand (item_may i v.may at)) (λ _. Ok (record { registers = r; pending = Some (pending i at w) }))
+perform v (store i at w r) = bind (claimed v i at w) (λ p. Ok (record { registers = r; pending = Some p }))
 perform v (fail c) = Err c
 perform v (t >>= f) = bind (obey v t) (λ x. perform v (f x))
 

@@ -16,32 +16,32 @@ abbrev pub times : ℕ → ℕ → ℕ
 times a b = (a * b) % 65536
 
 abbrev pub with_a : Registers → ℕ → Registers
-with_a r v = record { a = v; b = r.b; x = r.x; y = r.y; z = r.z; s = r.s; l = r.l; fm = r.fm; n = r.n; zr = r.zr; of = r.of; ca = r.ca }
+with_a r v = record r { a = v }
 
 abbrev pub with_x : Registers → ℕ → Registers
-with_x r v = record { a = r.a; b = r.b; x = v; y = r.y; z = r.z; s = r.s; l = r.l; fm = r.fm; n = r.n; zr = r.zr; of = r.of; ca = r.ca }
+with_x r v = record r { x = v }
 
 abbrev pub with_y : Registers → ℕ → Registers
-with_y r v = record { a = r.a; b = r.b; x = r.x; y = v; z = r.z; s = r.s; l = r.l; fm = r.fm; n = r.n; zr = r.zr; of = r.of; ca = r.ca }
+with_y r v = record r { y = v }
 
 abbrev pub with_z : Registers → ℕ → Registers
-with_z r v = record { a = r.a; b = r.b; x = r.x; y = r.y; z = v; s = r.s; l = r.l; fm = r.fm; n = r.n; zr = r.zr; of = r.of; ca = r.ca }
+with_z r v = record r { z = v }
 
 abbrev pub with_s : Registers → ℕ → Registers
-with_s r v = record { a = r.a; b = r.b; x = r.x; y = r.y; z = r.z; s = v; l = r.l; fm = r.fm; n = r.n; zr = r.zr; of = r.of; ca = r.ca }
+with_s r v = record r { s = v }
 
 abbrev pub with_fm : Registers → Bool → Registers
-with_fm r f = record { a = r.a; b = r.b; x = r.x; y = r.y; z = r.z; s = r.s; l = r.l; fm = f; n = r.n; zr = r.zr; of = r.of; ca = r.ca }
+with_fm r f = record r { fm = f }
 
 -- N and ZR
 abbrev pub with_nz : Registers → Bool → Bool → Registers
-with_nz r negative zero = record { a = r.a; b = r.b; x = r.x; y = r.y; z = r.z; s = r.s; l = r.l; fm = r.fm; n = negative; zr = zero; of = r.of; ca = r.ca }
+with_nz r negative zero = record r { n = negative; zr = zero }
 
 abbrev pub with_of : Registers → Bool → Registers
-with_of r o = record { a = r.a; b = r.b; x = r.x; y = r.y; z = r.z; s = r.s; l = r.l; fm = r.fm; n = r.n; zr = r.zr; of = o; ca = r.ca }
+with_of r o = record r { of = o }
 
 abbrev pub with_ca : Registers → Bool → Registers
-with_ca r c = record { a = r.a; b = r.b; x = r.x; y = r.y; z = r.z; s = r.s; l = r.l; fm = r.fm; n = r.n; zr = r.zr; of = r.of; ca = c }
+with_ca r c = record r { ca = c }
 
 -- OF is made 1, or stays
 abbrev pub raised : Registers → Bool → Registers

@@ -1,6 +1,7 @@
 ghost use Rattle.access.specs.Access.{held, sight_of};
 ghost use Rattle.machine.specs.Address.{base, far_base, formed, indirect};
 ghost use Rattle.machine.specs.Plan.{obey, placed};
+ghost use Rattle.machine.specs.Registers.{advanced};
 ghost use Rattle.std.specs.Prelude.{◌≡◌};
 
 use crate::mode::Mode;
@@ -17,21 +18,22 @@ pub fn at_place<T>(place: Place, res: Result<T, Denial>) -> Result<T, Cause>
     res.map_err(|denial| Cause::Denied(place, denial))
 }
 
+// S counts as at the next instruction, here and below.
 #[inline(always)]
-fn base_of(r: Registers, m: u8) -> u16
-    ensures { result ≡ base r m }
+fn base_of(r: &Registers, m: u8) -> u16
+    ensures { result ≡ base (advanced r.now) m }
 {
     match m {
         0 => r.l,
-        1 => r.s,
+        1 => r.s.wrapping_add(2),
         2 => r.y,
         _ => r.z,
     }
 }
 
 #[inline(always)]
-fn far_base_of(r: Registers, m: u8) -> u16
-    ensures { result ≡ far_base r m }
+fn far_base_of(r: &Registers, m: u8) -> u16
+    ensures { result ≡ far_base (advanced r.now) m }
 {
     if m == 1 { 0 } else { base_of(r, m) }
 }
@@ -50,10 +52,10 @@ fn form_indirect<S: Store>(at: u16, length: u16, x: u16, view: &View<S>) -> Resu
 pub(crate) fn form<S: Store>(
     mode: Mode,
     length: u16,
-    r: Registers,
+    r: &Registers,
     view: &View<S>,
 ) -> Result<u16, Cause>
-    ensures { result ≡ obey (sight_of view.now) (formed mode length r) }
+    ensures { result ≡ obey (sight_of view.now) (formed mode length (advanced r.now)) }
 {
     let scaled = mode.d.wrapping_mul(length);
     match mode.format {
@@ -80,10 +82,10 @@ pub(crate) fn form<S: Store>(
 #[inline(always)]
 pub(crate) fn operand<T: Item, S: Store>(
     mode: Mode,
-    r: Registers,
+    r: &Registers,
     view: &View<S>,
 ) -> Result<T, Cause>
-    ensures { held T.bits result ≡ obey (sight_of view.now) (Rattle.machine.specs.Address.operand T.item mode r) }
+    ensures { held T.bits result ≡ obey (sight_of view.now) (Rattle.machine.specs.Address.operand T.item mode (advanced r.now)) }
 {
     let at = form(mode, T::SIZE, r, view)?;
     at_place(Place::Operand, T::read(view, at))

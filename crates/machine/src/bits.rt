@@ -77,16 +77,13 @@ fn is_zero(operation: Operation, al: u16, bit: u8) -> bool
 }
 
 #[inline(always)]
-fn operate(operation: Operation, bit: u8, r: Registers) -> Registers
+fn operate(operation: Operation, bit: u8, registers: &mut Registers)
     requires { bit < 16 }
-    ensures { result ≡ bit_done operation bit r }
+    ensures { registers.new ≡ bit_done operation bit registers.old }
 {
-    let al = r.low_half();
-    Registers {
-        a: r.a - u32::from(al) + u32::from(alter(operation, al, bit)),
-        zr: is_zero(operation, al, bit),
-        ..r
-    }
+    let al = registers.low_half();
+    registers.a = registers.a - u32::from(al) + u32::from(alter(operation, al, bit));
+    registers.zr = is_zero(operation, al, bit);
 }
 
 // The control byte has the operation in its high half and the bit's number in its low half.
@@ -95,6 +92,7 @@ pub(crate) fn control(byte: u8, registers: &mut Registers) -> Result<Option<Pend
     ensures registers { (v : Sight) → registers.new ≡ settled registers.old (perform v (controlled byte (advanced registers.old))) }
 {
     let operation = Operation::try_from(byte / 16)?;
-    *registers = operate(operation, byte % 16, registers.at_next());
+    registers.advance();
+    operate(operation, byte % 16, registers);
     Ok(None)
 }

@@ -11,7 +11,7 @@ use crate::pointers::*;
 use crate::products::*;
 use crate::registers::Registers;
 use crate::stores::*;
-use crate::strings::{compare, end_string, move_byte, move_half, move_nearer, scan, translate};
+use crate::strings::{compare, move_byte, move_half, move_nearer, scan, translate};
 use crate::sums::*;
 use access::{Cause, View};
 use code::Name;
@@ -104,7 +104,8 @@ pub fn execute<S: Store>(
         Name::Bitx => control(indexed(d, x), registers),
         Name::Bitl => control(low_byte(d), registers),
         Name::Mbs | Name::Cpbs | Name::Trbs | Name::Scbs | Name::Mhs if x == 0 => {
-            *registers = end_string(registers.at_next());
+            registers.advance();
+            registers.end_string();
             Ok(None)
         }
         Name::Mbs => move_byte(registers, move_nearer(x), view),

@@ -20,7 +20,7 @@ pub(crate) fn ldb<S: Store>(
     ensures answers { result ≡ to_write (does Ldb mode (advanced registers.old) view.now.bay view.now.bytes) }
     ensures registers { registers.new ≡ settled registers.old (does Ldb mode (advanced registers.old) view.now.bay view.now.bytes) }
 {
-    let v: u8 = operand(mode, registers.at_next(), view)?;
+    let v: u8 = operand(mode, registers, view)?;
     registers.advance();
     registers.load_a(u32::from(v));
     Ok(None)
@@ -34,7 +34,7 @@ pub(crate) fn ld<S: Store>(
     ensures answers { result ≡ to_write (does Ld mode (advanced registers.old) view.now.bay view.now.bytes) }
     ensures registers { registers.new ≡ settled registers.old (does Ld mode (advanced registers.old) view.now.bay view.now.bytes) }
 {
-    let v: u16 = operand(mode, registers.at_next(), view)?;
+    let v: u16 = operand(mode, registers, view)?;
     registers.advance();
     registers.load_a(extend(v));
     Ok(None)
@@ -48,7 +48,7 @@ pub(crate) fn ldw<S: Store>(
     ensures answers { result ≡ to_write (does Ldw mode (advanced registers.old) view.now.bay view.now.bytes) }
     ensures registers { registers.new ≡ settled registers.old (does Ldw mode (advanced registers.old) view.now.bay view.now.bytes) }
 {
-    let v: u32 = operand(mode, registers.at_next(), view)?;
+    let v: u32 = operand(mode, registers, view)?;
     registers.advance();
     registers.load_a(v);
     Ok(None)
@@ -62,7 +62,7 @@ pub(crate) fn ldx<S: Store>(
     ensures answers { result ≡ to_write (does Ldx mode (advanced registers.old) view.now.bay view.now.bytes) }
     ensures registers { registers.new ≡ settled registers.old (does Ldx mode (advanced registers.old) view.now.bay view.now.bytes) }
 {
-    let v: u16 = operand(mode, registers.at_next(), view)?;
+    let v: u16 = operand(mode, registers, view)?;
     registers.advance();
     registers.load_x(v);
     Ok(None)

@@ -21,7 +21,7 @@ pub(crate) fn ldy<S: Store>(
     ensures answers { result ≡ to_write (does Ldy mode (advanced registers.old) view.now.bay view.now.bytes) }
     ensures registers { registers.new ≡ settled registers.old (does Ldy mode (advanced registers.old) view.now.bay view.now.bytes) }
 {
-    let v: u16 = operand(mode, registers.at_next(), view)?;
+    let v: u16 = operand(mode, registers, view)?;
     registers.advance();
     registers.y = v;
     Ok(None)
@@ -35,7 +35,7 @@ pub(crate) fn ady<S: Store>(
     ensures answers { result ≡ to_write (does Ady mode (advanced registers.old) view.now.bay view.now.bytes) }
     ensures registers { registers.new ≡ settled registers.old (does Ady mode (advanced registers.old) view.now.bay view.now.bytes) }
 {
-    let v: u16 = operand(mode, registers.at_next(), view)?;
+    let v: u16 = operand(mode, registers, view)?;
     registers.advance();
     registers.y = registers.y.wrapping_add(v);
     Ok(None)
@@ -49,7 +49,7 @@ pub(crate) fn sby<S: Store>(
     ensures answers { result ≡ to_write (does Sby mode (advanced registers.old) view.now.bay view.now.bytes) }
     ensures registers { registers.new ≡ settled registers.old (does Sby mode (advanced registers.old) view.now.bay view.now.bytes) }
 {
-    let v: u16 = operand(mode, registers.at_next(), view)?;
+    let v: u16 = operand(mode, registers, view)?;
     registers.advance();
     registers.y = registers.y.wrapping_sub(v);
     Ok(None)
@@ -63,7 +63,7 @@ pub(crate) fn ldz<S: Store>(
     ensures answers { result ≡ to_write (does Ldz mode (advanced registers.old) view.now.bay view.now.bytes) }
     ensures registers { registers.new ≡ settled registers.old (does Ldz mode (advanced registers.old) view.now.bay view.now.bytes) }
 {
-    let v: u16 = operand(mode, registers.at_next(), view)?;
+    let v: u16 = operand(mode, registers, view)?;
     registers.advance();
     registers.z = v;
     Ok(None)
@@ -77,7 +77,7 @@ pub(crate) fn adz<S: Store>(
     ensures answers { result ≡ to_write (does Adz mode (advanced registers.old) view.now.bay view.now.bytes) }
     ensures registers { registers.new ≡ settled registers.old (does Adz mode (advanced registers.old) view.now.bay view.now.bytes) }
 {
-    let v: u16 = operand(mode, registers.at_next(), view)?;
+    let v: u16 = operand(mode, registers, view)?;
     registers.advance();
     registers.z = registers.z.wrapping_add(v);
     Ok(None)
@@ -91,7 +91,7 @@ pub(crate) fn sbz<S: Store>(
     ensures answers { result ≡ to_write (does Sbz mode (advanced registers.old) view.now.bay view.now.bytes) }
     ensures registers { registers.new ≡ settled registers.old (does Sbz mode (advanced registers.old) view.now.bay view.now.bytes) }
 {
-    let v: u16 = operand(mode, registers.at_next(), view)?;
+    let v: u16 = operand(mode, registers, view)?;
     registers.advance();
     registers.z = registers.z.wrapping_sub(v);
     Ok(None)
@@ -105,7 +105,7 @@ pub(crate) fn bi<S: Store>(
     ensures answers { result ≡ to_write (does Bi mode (advanced registers.old) view.now.bay view.now.bytes) }
     ensures registers { registers.new ≡ settled registers.old (does Bi mode (advanced registers.old) view.now.bay view.now.bytes) }
 {
-    let v: u16 = operand(mode, registers.at_next(), view)?;
+    let v: u16 = operand(mode, registers, view)?;
     registers.advance();
     registers.s = v;
     Ok(None)
@@ -119,7 +119,7 @@ pub(crate) fn bli<S: Store>(
     ensures answers { result ≡ to_write (does Bli mode (advanced registers.old) view.now.bay view.now.bytes) }
     ensures registers { registers.new ≡ settled registers.old (does Bli mode (advanced registers.old) view.now.bay view.now.bytes) }
 {
-    let v: u16 = operand(mode, registers.at_next(), view)?;
+    let v: u16 = operand(mode, registers, view)?;
     registers.advance();
     registers.link();
     registers.s = v;

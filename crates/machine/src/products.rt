@@ -20,7 +20,7 @@ pub(crate) fn nw<S: Store>(
     ensures answers { result ≡ to_write (does Nw mode (advanced registers.old) view.now.bay view.now.bytes) }
     ensures registers { registers.new ≡ settled registers.old (does Nw mode (advanced registers.old) view.now.bay view.now.bytes) }
 {
-    let v: u32 = operand(mode, registers.at_next(), view)?;
+    let v: u32 = operand(mode, registers, view)?;
     registers.advance();
     registers.load_a(registers.a & v);
     Ok(None)
@@ -34,7 +34,7 @@ pub(crate) fn nx<S: Store>(
     ensures answers { result ≡ to_write (does Nx mode (advanced registers.old) view.now.bay view.now.bytes) }
     ensures registers { registers.new ≡ settled registers.old (does Nx mode (advanced registers.old) view.now.bay view.now.bytes) }
 {
-    let v: u16 = operand(mode, registers.at_next(), view)?;
+    let v: u16 = operand(mode, registers, view)?;
     registers.advance();
     registers.load_x(registers.x & v);
     Ok(None)
@@ -48,7 +48,7 @@ pub(crate) fn mx<S: Store>(
     ensures answers { result ≡ to_write (does Mx mode (advanced registers.old) view.now.bay view.now.bytes) }
     ensures registers { registers.new ≡ settled registers.old (does Mx mode (advanced registers.old) view.now.bay view.now.bytes) }
 {
-    let v: u16 = operand(mode, registers.at_next(), view)?;
+    let v: u16 = operand(mode, registers, view)?;
     registers.advance();
     registers.compute_x(multiply(registers.x, v, registers.ca));
     Ok(None)
@@ -62,7 +62,7 @@ pub(crate) fn dx<S: Store>(
     ensures answers { result ≡ to_write (does Dx mode (advanced registers.old) view.now.bay view.now.bytes) }
     ensures registers { registers.new ≡ settled registers.old (does Dx mode (advanced registers.old) view.now.bay view.now.bytes) }
 {
-    let v: u16 = operand(mode, registers.at_next(), view)?;
+    let v: u16 = operand(mode, registers, view)?;
     registers.advance();
     registers.divide_x(divide16(registers.x, v));
     Ok(None)

@@ -40,17 +40,6 @@ impl Registers {
         (self.a % 65536) as u16
     }
 
-    // The registers with S at the next instruction.
-    #[inline(always)]
-    pub(crate) fn at_next(self) -> Registers
-        ensures { result ≡ advanced self }
-    {
-        Registers {
-            s: self.s.wrapping_add(2),
-            ..self
-        }
-    }
-
     // S goes to the next instruction.
     #[inline(always)]
     pub(crate) fn advance(&mut self)

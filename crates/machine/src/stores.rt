@@ -1,7 +1,9 @@
-ghost use Rattle.access.specs.Access.{sight_of};
+ghost use Rattle.access.specs.Access.{bind, sight_of, size};
 ghost use Rattle.code.specs.declared.name.Name.TheVariants.{St, Stb, Stw, Stx, Sty, Stz};
-ghost use Rattle.machine.specs.Act.{perform, settled, store, to_write};
-ghost use Rattle.machine.specs.Instructions.{does, item_stored, stored_byte, stored_full, stored_half, stored_x};
+ghost use Rattle.machine.specs.Act.{claimed, settled, to_write};
+ghost use Rattle.machine.specs.Address.{formed};
+ghost use Rattle.machine.specs.Instructions.{does, stored_byte, stored_full, stored_half, stored_x};
+ghost use Rattle.machine.specs.Plan.{obey};
 ghost use Rattle.machine.specs.Registers.{advanced};
 ghost use Rattle.std.specs.Prelude.{◌≡◌};
 
@@ -12,37 +14,31 @@ use crate::registers::Registers;
 use access::{Cause, Place, View};
 use store::Store;
 
-// An item to be stored at an address, with the registers after it.
+// Leave to write an item at an address, and what is then to be written.
 #[inline(always)]
-pub(crate) fn put<T: Stored, S: Store>(
+pub(crate) fn claim<T: Stored, S: Store>(
     at: u16,
     value: T,
-    registers: &mut Registers,
-    after: Registers,
     view: &View<S>,
-) -> Result<Option<Pending>, Cause>
-    ensures answers { result ≡ to_write (perform (sight_of view.now) (store T.Item.item at (T.Item.bits value) after)) }
-    ensures registers { registers.new ≡ settled registers.old (perform (sight_of view.now) (store T.Item.item at (T.Item.bits value) after)) }
+) -> Result<Pending, Cause>
+    ensures { result ≡ claimed (sight_of view.now) T.Item.item at (T.Item.bits value) }
 {
     at_place(Place::Operand, view.may_write::<T>(at))?;
-    *registers = after;
-    Ok(Some(value.pending(at)))
+    Ok(value.pending(at))
 }
 
-// An item to be stored where the operand lies.
+// The same where the operand lies.
 #[inline(always)]
-fn store<T: Stored, S: Store>(
+fn claim_operand<T: Stored, S: Store>(
     mode: Mode,
-    registers: &mut Registers,
+    r: &Registers,
     value: T,
-    after: Registers,
     view: &View<S>,
-) -> Result<Option<Pending>, Cause>
-    ensures answers { result ≡ to_write (perform (sight_of view.now) (item_stored T.Item.item mode (advanced registers.old) (T.Item.bits value) after)) }
-    ensures registers { registers.new ≡ settled registers.old (perform (sight_of view.now) (item_stored T.Item.item mode (advanced registers.old) (T.Item.bits value) after)) }
+) -> Result<Pending, Cause>
+    ensures { result ≡ bind (obey (sight_of view.now) (formed mode (size T.Item.item) (advanced r.now))) (λ at. claimed (sight_of view.now) T.Item.item at (T.Item.bits value)) }
 {
-    let at = form(mode, T::SIZE, registers.at_next(), view)?;
-    put(at, value, registers, after, view)
+    let at = form(mode, T::SIZE, r, view)?;
+    claim(at, value, view)
 }
 
 // What a store tells the markers.
@@ -91,9 +87,10 @@ pub(crate) fn stb<S: Store>(
     ensures answers { result ≡ to_write (does Stb mode (advanced registers.old) view.now.bay view.now.bytes) }
     ensures registers { registers.new ≡ settled registers.old (does Stb mode (advanced registers.old) view.now.bay view.now.bytes) }
 {
-    let mut after = registers.at_next();
-    after.mark_byte();
-    store(mode, registers, after.low_byte(), after, view)
+    let pending = claim_operand(mode, registers, registers.low_byte(), view)?;
+    registers.advance();
+    registers.mark_byte();
+    Ok(Some(pending))
 }
 
 pub(crate) fn st<S: Store>(
@@ -104,9 +101,10 @@ pub(crate) fn st<S: Store>(
     ensures answers { result ≡ to_write (does St mode (advanced registers.old) view.now.bay view.now.bytes) }
     ensures registers { registers.new ≡ settled registers.old (does St mode (advanced registers.old) view.now.bay view.now.bytes) }
 {
-    let mut after = registers.at_next();
-    after.mark_half();
-    store(mode, registers, after.low_half(), after, view)
+    let pending = claim_operand(mode, registers, registers.low_half(), view)?;
+    registers.advance();
+    registers.mark_half();
+    Ok(Some(pending))
 }
 
 pub(crate) fn stw<S: Store>(
@@ -117,9 +115,10 @@ pub(crate) fn stw<S: Store>(
     ensures answers { result ≡ to_write (does Stw mode (advanced registers.old) view.now.bay view.now.bytes) }
     ensures registers { registers.new ≡ settled registers.old (does Stw mode (advanced registers.old) view.now.bay view.now.bytes) }
 {
-    let mut after = registers.at_next();
-    after.mark_full();
-    store(mode, registers, after.a, after, view)
+    let pending = claim_operand(mode, registers, registers.a, view)?;
+    registers.advance();
+    registers.mark_full();
+    Ok(Some(pending))
 }
 
 pub(crate) fn stx<S: Store>(
@@ -130,9 +129,10 @@ pub(crate) fn stx<S: Store>(
     ensures answers { result ≡ to_write (does Stx mode (advanced registers.old) view.now.bay view.now.bytes) }
     ensures registers { registers.new ≡ settled registers.old (does Stx mode (advanced registers.old) view.now.bay view.now.bytes) }
 {
-    let mut after = registers.at_next();
-    after.mark_x();
-    store(mode, registers, after.x, after, view)
+    let pending = claim_operand(mode, registers, registers.x, view)?;
+    registers.advance();
+    registers.mark_x();
+    Ok(Some(pending))
 }
 
 pub(crate) fn sty<S: Store>(
@@ -143,8 +143,9 @@ pub(crate) fn sty<S: Store>(
     ensures answers { result ≡ to_write (does Sty mode (advanced registers.old) view.now.bay view.now.bytes) }
     ensures registers { registers.new ≡ settled registers.old (does Sty mode (advanced registers.old) view.now.bay view.now.bytes) }
 {
-    let after = registers.at_next();
-    store(mode, registers, after.y, after, view)
+    let pending = claim_operand(mode, registers, registers.y, view)?;
+    registers.advance();
+    Ok(Some(pending))
 }
 
 pub(crate) fn stz<S: Store>(
@@ -155,6 +156,7 @@ pub(crate) fn stz<S: Store>(
     ensures answers { result ≡ to_write (does Stz mode (advanced registers.old) view.now.bay view.now.bytes) }
     ensures registers { registers.new ≡ settled registers.old (does Stz mode (advanced registers.old) view.now.bay view.now.bytes) }
 {
-    let after = registers.at_next();
-    store(mode, registers, after.z, after, view)
+    let pending = claim_operand(mode, registers, registers.z, view)?;
+    registers.advance();
+    Ok(Some(pending))
 }

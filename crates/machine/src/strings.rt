@@ -1,13 +1,15 @@
-ghost use Rattle.access.specs.Access.{sight_of};
-ghost use Rattle.machine.specs.Act.{perform, settled, to_write};
+ghost use Rattle.access.specs.Access.{bind, sight_of};
+ghost use Rattle.access.specs.declared.stop.Place.TheVariants.{Operand};
+ghost use Rattle.machine.specs.Act.{claimed, perform, settled, to_write};
+ghost use Rattle.machine.specs.Plan.{obey, read};
 ghost use Rattle.machine.specs.Registers.{advanced};
-ghost use Rattle.machine.specs.Strings.{complete, compared, judged, moved_byte, moved_half, nearer, passed, scanned, transferred, translated};
+ghost use Rattle.machine.specs.Strings.{complete, compared, judged, moved_byte, moved_half, nearer, passed, scanned, translated};
 ghost use Rattle.std.specs.Prelude.{◌≡◌};
 
 use crate::address::at_place;
 use crate::pending::{Pending, Stored};
 use crate::registers::Registers;
-use crate::stores::put;
+use crate::stores::claim;
 use access::{Cause, Item, Place, View};
 use store::Store;
 
@@ -23,64 +25,51 @@ pub(crate) fn move_nearer(x: u16) -> u16
     }
 }
 
-#[inline(always)]
-pub(crate) fn end_string(r: Registers) -> Registers
-    ensures { result ≡ complete r }
-{
-    Registers {
-        x: 0,
-        n: false,
-        zr: true,
-        ..r
+impl Registers {
+    #[inline(always)]
+    pub(crate) fn end_string(&mut self)
+        ensures { self.new ≡ complete self.old }
+    {
+        self.x = 0;
+        self.n = false;
+        self.zr = true;
     }
-}
 
-// After an element that does not end its string: complete at the last, else S is put back.
-#[inline(always)]
-fn pass(r: Registers, x: u16) -> Registers
-    ensures { result ≡ passed r x }
-{
-    if x == 0 {
-        end_string(r)
-    } else {
-        Registers {
-            x,
-            s: r.s.wrapping_sub(2),
-            ..r
+    // After an element that does not end its string: complete at the last, else S is put back.
+    #[inline(always)]
+    fn pass(&mut self, x: u16)
+        ensures { self.new ≡ passed self.old x }
+    {
+        if x == 0 {
+            self.end_string();
+        } else {
+            self.x = x;
+            self.s = self.s.wrapping_sub(2);
+        }
+    }
+
+    // After an element that ends its string, or not, unless it is the last.
+    #[inline(always)]
+    fn judge(&mut self, x: u16, ends: bool, negative: bool)
+        ensures { self.new ≡ judged self.old x ends negative }
+    {
+        if x != 0 && ends {
+            self.x = x;
+            self.n = negative;
+            self.zr = false;
+        } else {
+            self.pass(x);
         }
     }
 }
 
-// After an element that ends its string, or not, unless it is the last.
+// An item is read at one address, and leave is asked to write it at another.
 #[inline(always)]
-fn judge(r: Registers, x: u16, ends: bool, negative: bool) -> Registers
-    ensures { result ≡ judged r x ends negative }
-{
-    if x != 0 && ends {
-        Registers {
-            x,
-            n: negative,
-            zr: false,
-            ..r
-        }
-    } else {
-        pass(r, x)
-    }
-}
-
-#[inline(always)]
-fn transfer<T: Stored, S: Store>(
-    from: u16,
-    to: u16,
-    registers: &mut Registers,
-    after: Registers,
-    view: &View<S>,
-) -> Result<Option<Pending>, Cause>
-    ensures answers { result ≡ to_write (perform (sight_of view.now) (transferred T.Item.item from to after)) }
-    ensures registers { registers.new ≡ settled registers.old (perform (sight_of view.now) (transferred T.Item.item from to after)) }
+fn transfer<T: Stored, S: Store>(from: u16, to: u16, view: &View<S>) -> Result<Pending, Cause>
+    ensures { result ≡ bind (obey (sight_of view.now) (read Operand T.Item.item from)) (λ v. claimed (sight_of view.now) T.Item.item to v) }
 {
     let moved: T = at_place(Place::Operand, T::read(view, from))?;
-    put(to, moved, registers, after, view)
+    claim(to, moved, view)
 }
 
 // The step of an element takes the registers, the new X and the view, as its rule takes the registers and the new X: a value of the three
@@ -94,14 +83,14 @@ pub(crate) fn move_byte<S: Store>(
     ensures answers { result ≡ to_write (perform (sight_of view.now) (moved_byte (advanced registers.old) x)) }
     ensures registers { registers.new ≡ settled registers.old (perform (sight_of view.now) (moved_byte (advanced registers.old) x)) }
 {
-    let r = registers.at_next();
-    transfer::<u8, S>(
-        r.z.wrapping_add(x),
-        r.y.wrapping_add(x),
-        registers,
-        pass(r, x),
+    let pending = transfer::<u8, S>(
+        registers.z.wrapping_add(x),
+        registers.y.wrapping_add(x),
         view,
-    )
+    )?;
+    registers.advance();
+    registers.pass(x);
+    Ok(Some(pending))
 }
 
 pub(crate) fn move_half<S: Store>(
@@ -112,15 +101,15 @@ pub(crate) fn move_half<S: Store>(
     ensures answers { result ≡ to_write (perform (sight_of view.now) (moved_half (advanced registers.old) x)) }
     ensures registers { registers.new ≡ settled registers.old (perform (sight_of view.now) (moved_half (advanced registers.old) x)) }
 {
-    let r = registers.at_next();
     let distance = x.wrapping_mul(2);
-    transfer::<u16, S>(
-        r.z.wrapping_add(distance),
-        r.y.wrapping_add(distance),
-        registers,
-        pass(r, x),
+    let pending = transfer::<u16, S>(
+        registers.z.wrapping_add(distance),
+        registers.y.wrapping_add(distance),
         view,
-    )
+    )?;
+    registers.advance();
+    registers.pass(x);
+    Ok(Some(pending))
 }
 
 pub(crate) fn translate<S: Store>(
@@ -131,16 +120,12 @@ pub(crate) fn translate<S: Store>(
     ensures answers { result ≡ to_write (perform (sight_of view.now) (translated (advanced registers.old) x)) }
     ensures registers { registers.new ≡ settled registers.old (perform (sight_of view.now) (translated (advanced registers.old) x)) }
 {
-    let r = registers.at_next();
-    let at = r.y.wrapping_add(x);
+    let at = registers.y.wrapping_add(x);
     let old = at_place(Place::Operand, u8::read(view, at))?;
-    transfer::<u8, S>(
-        r.z.wrapping_add(u16::from(old)),
-        at,
-        registers,
-        pass(r, x),
-        view,
-    )
+    let pending = transfer::<u8, S>(registers.z.wrapping_add(u16::from(old)), at, view)?;
+    registers.advance();
+    registers.pass(x);
+    Ok(Some(pending))
 }
 
 pub(crate) fn compare<S: Store>(
@@ -151,10 +136,10 @@ pub(crate) fn compare<S: Store>(
     ensures answers { result ≡ to_write (perform (sight_of view.now) (compared (advanced registers.old) x)) }
     ensures registers { registers.new ≡ settled registers.old (perform (sight_of view.now) (compared (advanced registers.old) x)) }
 {
-    let r = registers.at_next();
-    let one = at_place(Place::Operand, u8::read(view, r.z.wrapping_add(x)))?;
-    let other = at_place(Place::Operand, u8::read(view, r.y.wrapping_add(x)))?;
-    *registers = judge(r, x, one != other, one < other);
+    let one = at_place(Place::Operand, u8::read(view, registers.z.wrapping_add(x)))?;
+    let other = at_place(Place::Operand, u8::read(view, registers.y.wrapping_add(x)))?;
+    registers.advance();
+    registers.judge(x, one != other, one < other);
     Ok(None)
 }
 
@@ -166,12 +151,12 @@ pub(crate) fn scan<S: Store>(
     ensures answers { result ≡ to_write (perform (sight_of view.now) (scanned (advanced registers.old) x)) }
     ensures registers { registers.new ≡ settled registers.old (perform (sight_of view.now) (scanned (advanced registers.old) x)) }
 {
-    let r = registers.at_next();
-    let byte = at_place(Place::Operand, u8::read(view, r.y.wrapping_add(x)))?;
+    let byte = at_place(Place::Operand, u8::read(view, registers.y.wrapping_add(x)))?;
     let entry = at_place(
         Place::Operand,
-        u8::read(view, r.z.wrapping_add(u16::from(byte))),
+        u8::read(view, registers.z.wrapping_add(u16::from(byte))),
     )?;
-    *registers = judge(r, x, entry & r.low_byte() != 0, false);
+    registers.advance();
+    registers.judge(x, entry & registers.low_byte() != 0, false);
     Ok(None)
 }

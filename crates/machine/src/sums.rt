@@ -21,7 +21,7 @@ pub(crate) fn ad<S: Store>(
     ensures answers { result ≡ to_write (does Ad mode (advanced registers.old) view.now.bay view.now.bytes) }
     ensures registers { registers.new ≡ settled registers.old (does Ad mode (advanced registers.old) view.now.bay view.now.bytes) }
 {
-    let v: u16 = operand(mode, registers.at_next(), view)?;
+    let v: u16 = operand(mode, registers, view)?;
     registers.advance();
     registers.compute_a(add(registers.a, extend(v)));
     Ok(None)
@@ -35,7 +35,7 @@ pub(crate) fn adw<S: Store>(
     ensures answers { result ≡ to_write (does Adw mode (advanced registers.old) view.now.bay view.now.bytes) }
     ensures registers { registers.new ≡ settled registers.old (does Adw mode (advanced registers.old) view.now.bay view.now.bytes) }
 {
-    let v: u32 = operand(mode, registers.at_next(), view)?;
+    let v: u32 = operand(mode, registers, view)?;
     registers.advance();
     registers.compute_a(add(registers.a, v));
     Ok(None)
@@ -49,7 +49,7 @@ pub(crate) fn adx<S: Store>(
     ensures answers { result ≡ to_write (does Adx mode (advanced registers.old) view.now.bay view.now.bytes) }
     ensures registers { registers.new ≡ settled registers.old (does Adx mode (advanced registers.old) view.now.bay view.now.bytes) }
 {
-    let v: u16 = operand(mode, registers.at_next(), view)?;
+    let v: u16 = operand(mode, registers, view)?;
     registers.advance();
     registers.compute_x(add(registers.x, v));
     Ok(None)
@@ -63,7 +63,7 @@ pub(crate) fn sb<S: Store>(
     ensures answers { result ≡ to_write (does Sb mode (advanced registers.old) view.now.bay view.now.bytes) }
     ensures registers { registers.new ≡ settled registers.old (does Sb mode (advanced registers.old) view.now.bay view.now.bytes) }
 {
-    let v: u16 = operand(mode, registers.at_next(), view)?;
+    let v: u16 = operand(mode, registers, view)?;
     registers.advance();
     registers.compute_a(subtract(registers.a, extend(v)));
     Ok(None)
@@ -77,7 +77,7 @@ pub(crate) fn sbw<S: Store>(
     ensures answers { result ≡ to_write (does Sbw mode (advanced registers.old) view.now.bay view.now.bytes) }
     ensures registers { registers.new ≡ settled registers.old (does Sbw mode (advanced registers.old) view.now.bay view.now.bytes) }
 {
-    let v: u32 = operand(mode, registers.at_next(), view)?;
+    let v: u32 = operand(mode, registers, view)?;
     registers.advance();
     registers.compute_a(subtract(registers.a, v));
     Ok(None)
@@ -91,7 +91,7 @@ pub(crate) fn sbx<S: Store>(
     ensures answers { result ≡ to_write (does Sbx mode (advanced registers.old) view.now.bay view.now.bytes) }
     ensures registers { registers.new ≡ settled registers.old (does Sbx mode (advanced registers.old) view.now.bay view.now.bytes) }
 {
-    let v: u16 = operand(mode, registers.at_next(), view)?;
+    let v: u16 = operand(mode, registers, view)?;
     registers.advance();
     registers.compute_x(subtract(registers.x, v));
     Ok(None)
@@ -105,7 +105,7 @@ pub(crate) fn cp<S: Store>(
     ensures answers { result ≡ to_write (does Cp mode (advanced registers.old) view.now.bay view.now.bytes) }
     ensures registers { registers.new ≡ settled registers.old (does Cp mode (advanced registers.old) view.now.bay view.now.bytes) }
 {
-    let v: u16 = operand(mode, registers.at_next(), view)?;
+    let v: u16 = operand(mode, registers, view)?;
     registers.advance();
     registers.mark(subtract(registers.a, extend(v)));
     Ok(None)
@@ -119,7 +119,7 @@ pub(crate) fn cpw<S: Store>(
     ensures answers { result ≡ to_write (does Cpw mode (advanced registers.old) view.now.bay view.now.bytes) }
     ensures registers { registers.new ≡ settled registers.old (does Cpw mode (advanced registers.old) view.now.bay view.now.bytes) }
 {
-    let v: u32 = operand(mode, registers.at_next(), view)?;
+    let v: u32 = operand(mode, registers, view)?;
     registers.advance();
     registers.mark(subtract(registers.a, v));
     Ok(None)
@@ -133,7 +133,7 @@ pub(crate) fn cpx<S: Store>(
     ensures answers { result ≡ to_write (does Cpx mode (advanced registers.old) view.now.bay view.now.bytes) }
     ensures registers { registers.new ≡ settled registers.old (does Cpx mode (advanced registers.old) view.now.bay view.now.bytes) }
 {
-    let v: u16 = operand(mode, registers.at_next(), view)?;
+    let v: u16 = operand(mode, registers, view)?;
     registers.advance();
     registers.mark(subtract(registers.x, v));
     Ok(None)

@@ -1,9 +1,6 @@
 use crate::measure::measure;
 use crate::runs::requests;
-use book::Book;
-use inputs::{
-    Failure, Fault, full, parse_job, read_book, read_file, read_image, read_records, words, zeroed,
-};
+use inputs::{Failure, Fault, full, parse_job, read_file, read_image, read_records, words, zeroed};
 use job::Job;
 use session::Request;
 use std::alloc::Global;
@@ -31,7 +28,7 @@ fn tell(rt: &HostRuntime, kind: &str, micros: u64, plain: u64) -> Result<(), Fai
 fn over_plain(
     rt: &HostRuntime,
     image: &str,
-    book: Book,
+    book: &str,
     requests: &[Request],
 ) -> Result<u64, Failure> {
     let mut memory = read_image(rt, image)?;
@@ -41,7 +38,7 @@ fn over_plain(
 fn over_image(
     rt: &HostRuntime,
     image: &str,
-    book: Book,
+    book: &str,
     requests: &[Request],
 ) -> Result<u64, Failure> {
     let image = read_image(rt, image)?;
@@ -53,7 +50,7 @@ fn over_image(
 fn over_pages(
     rt: &HostRuntime,
     image: &str,
-    book: Book,
+    book: &str,
     requests: &[Request],
     plain: u64,
 ) -> Result<(), Failure> {
@@ -74,7 +71,7 @@ fn over_pages(
 fn measure_over(
     rt: &HostRuntime,
     image: &str,
-    book: Book,
+    book: &str,
     requests: &[Request],
 ) -> Result<(), Failure> {
     let plain = over_plain(rt, image, book, requests)?;
@@ -98,13 +95,12 @@ pub fn measure_all(rt: &HostRuntime) -> Result<(), Failure> {
     let runs = full(runs.as_str().as_bytes()).ok_or(Failure::Usage(
         "speed BOOK IMAGE JOB RUNS (RUNS 0 to 4294967295)",
     ))?;
-    let book = read_book(rt, book.as_str())?;
     let text = read_file(rt, job.as_str())?;
     let job = parse_job(rt, job.as_str(), &text)?;
     let records = read_records(rt, &job)?;
     let record = first_record(rt.alloc(), &job, &records)?;
     let requests = requests(rt.alloc(), &job, record, runs)?;
-    measure_over(rt, image.as_str(), book, &requests)
+    measure_over(rt, image.as_str(), book.as_str(), &requests)
 }
 
 #[cfg(test)]

@@ -9,6 +9,7 @@ use Rattle.access.specs.declared.stop.Cause.{Cause}
 use Rattle.access.specs.declared.stop.Denial.{Denial}
 use Rattle.access.specs.declared.stop.Place.{Place}
 use Rattle.machine.specs.Act.{Act, done, fail, pending, perform, still, store, ◌>>=◌}
+use Rattle.machine.specs.declared.pending.Pending.{Pending}
 use Rattle.machine.specs.Plan.{obey, placed}
 use Rattle.machine.specs.Act.{Effect}
 use Rattle.machine.specs.declared.registers.Registers.{Registers}
@@ -58,9 +59,9 @@ item_leave full may at h a g =
     let n = both (may ((b + 2) % 65536)) (may (((b + 2) % 65536 + 1) % 65536)) k.1 in
     either a _ _ (λ b. may b ≡ Ok tt) g m.0 (λ g. either a _ _ (λ b. may b ≡ Ok tt) g m.1 (λ g. either a _ _ (λ b. may b ≡ Ok tt) g n.0 (λ g. either a _ false (λ b. may b ≡ Ok tt) g n.1 (λ f. absurd (false≢true f)))))
 
-left_for : (p : Place) (x : Result (Unit {0}) Denial) (d e : Effect) → bind (placed p x) (λ _. Ok d) ≡ Ok e → (x ≡ Ok tt) × (d ≡ e)
-left_for p (Ok u) d e h = (refl, cc)
-left_for p (Err c) d e h = let z : ◌≡◌ {A = ℕ} 0 1 = cc in absurd (omega arith)
+left_for : (p : Place) (x : Result (Unit {0}) Denial) (q : Pending) (d : Pending → Effect) (e : Effect) → bind (bind (placed p x) (λ _. Ok q)) (λ w. Ok (d w)) ≡ Ok e → (x ≡ Ok tt) × (d q ≡ e)
+left_for p (Ok u) q d e h = (refl, cc)
+left_for p (Err c) q d e h = let z : ◌≡◌ {A = ℕ} 0 1 = cc in absurd (omega arith)
 
 module _ (bay : Bay) (bs : List ℕ) where
   -- only bytes of the list, and those only under write grants
@@ -86,7 +87,7 @@ module _ (bay : Bay) (bs : List ℕ) where
   act_kept : (t : Act) (e : Effect) → perform (sight bay bs) t ≡ Ok e → Kept (target (sight bay bs) t) (committed bs e.pending)
   act_kept (done r) e h = let q : still r ≡ e = cc in subst (λ (x : Effect). Kept [] (committed bs x.pending)) q (λ a k. refl)
   act_kept (store i at w r) e h =
-      let k = left_for _ (item_may i (checked bay Write) at) (record { registers = r; pending = Some (pending i at w) }) e h in
+      let k = left_for _ (item_may i (checked bay Write) at) (pending i at w) (λ p. record { registers = r; pending = Some p }) e h in
       subst (λ (x : Effect). Kept (item_bytes i at) (committed bs x.pending)) k.1 (item_kept i at w k.0)
   act_kept (fail c) e h = let z : ◌≡◌ {A = ℕ} 0 1 = cc in absurd (omega arith)
   act_kept (t >>= f) e h = bind_kept (obey (sight bay bs) t) (λ x. perform (sight bay bs) (f x)) (λ x. target (sight bay bs) (f x)) e h (λ x k. act_kept (f x) e k)

@@ -16,6 +16,7 @@ use Rattle.access.specs.declared.stop.Denial.{Denial}
 use Rattle.access.specs.declared.stop.Place.TheVariants.{Fetch, Operand}
 use Rattle.access.specs.declared.stop.Stop.{Stop}
 use Rattle.machine.specs.Act.{done, pending, perform, store}
+use Rattle.machine.specs.declared.pending.Pending.{Pending}
 use Rattle.machine.specs.Instructions.{executed}
 use Rattle.machine.specs.Plan.{fetch, obey, placed}
 use Rattle.machine.specs.Registers.{advanced, minus, plus, with_s, with_x}
@@ -125,13 +126,13 @@ module _ (reads : ℕ → Reading) (bay : Bay) (name : Name) (i : Item) (at : �
   one r bs w f d x p q =
       let v : Sight = sight bay bs in
       let x' : ℕ = nearer r.x in
-      let ends : Effect = record { registers = passed (advanced r) x'; pending = Some (pending i (at r.y x') (value i bs (at r.z x'))) } in
+      let ends : Pending → Effect = λ p. record { registers = passed (advanced r) x'; pending = Some p } in
       ap {B = Result Effect Stop} (λ o. stopped r.s (bind o (λ w. perform v (begun (reads w) (advanced r))))) f
       ∙ ap (λ c. stopped r.s (perform v (begun c (advanced r)))) d
       ∙ ap (λ t. stopped r.s (perform v t)) (rule (mode L 0 (pos 0)) (advanced r))
       ∙ ap (λ t. stopped r.s (perform v (cond t (done (complete (advanced r))) (moved i (at r.z) (at r.y) (advanced r) x')))) x
       ∙ ap {B = Result Effect Stop} (λ o. stopped r.s (bind (placed Operand o) (λ u. perform v (store i (at r.y x') u (passed (advanced r) x'))))) (item_seen bay i (at r.z x') bs p)
-      ∙ ap {B = Result Effect Stop} (λ o. stopped r.s (bind (placed Operand o) (λ _. Ok ends))) (item_may_ok bay i (at r.y x') q)
+      ∙ ap {B = Result Effect Stop} (λ o. stopped r.s (bind (bind (placed Operand o) (λ _. Ok (pending i (at r.y x') (value i bs (at r.z x'))))) (λ p. Ok (ends p)))) (item_may_ok bay i (at r.y x') q)
 
   -- a step that is completed, and the steps after it
   on : (n k : ℕ) (r : Registers) (bs : List ℕ) (e : Effect) → stepped reads r (sight bay bs) ≡ Ok e → run reads bay (suc n) k r bs ≡ run reads bay n (k + 1) e.registers (committed bs e.pending)

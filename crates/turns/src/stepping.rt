@@ -41,7 +41,7 @@ fn obey_defined<S: Store>(
     ensures answers { result ≡ to_write (perform (sight_of view.now) (defined name mode (advanced registers.old))) }
     ensures registers { registers.new ≡ settled registers.old (perform (sight_of view.now) (defined name mode (advanced registers.old))) }
 {
-    if is_format_a(mode.format) && registers.fm {
+    if registers.fm && is_format_a(mode.format) {
         return Err(Cause::Floating);
     }
     execute(name, mode, registers, view)

@@ -55,8 +55,7 @@ fn run_steps<S: Store>(
     Turned::spent(budget)
 }
 
-// Steps up to the budget, or up to a stop. Meanwhile the registers are the turn's own: borrowed ones would go to memory and back at
-// each step.
+// Steps up to the budget, or up to a stop.
 pub fn turn<S: Store>(
     book: &Book,
     registers: &mut Registers,
@@ -70,8 +69,5 @@ pub fn turn<S: Store>(
     ensures moves_byte_strings { MovesBytes }
     ensures moves_halfword_strings { MovesHalfwords }
 {
-    let mut own = *registers;
-    let turned = run_steps(book, &mut own, store, &Reach::new(bay), budget);
-    *registers = own;
-    turned
+    run_steps(book, registers, store, &Reach::new(bay), budget)
 }

@@ -8,7 +8,7 @@ use Rattle.turns.proofs.turning.turn.Goals as goal
 
 pub returns : goal.returns
 returns g c =
-    let e = c.run_steps-turned.ensures in
+    let e = c.run_steps.ensures in
     record {
       runs = e.runs ∙ ap (λ (bay : Bay). run (reading c.args.book.now.tables) bay c.args.budget 0 c.args.registers.now (g.S.Store.bytes c.args.store.now)) c.new.ensures;
       footing = e.footing;

@@ -6,4 +6,4 @@ use Rattle.access.proofs.reach.Reach.may_write_pair.Goals as goal
 pub returns-then-serves : goal.returns-then-serves
 returns-then-serves c =
     let last = c.args.at + 1 in
-    pair_may c.args.self.now Write c.args.at last refl c.requires (served c.args.self.now c.get.result Write c.args.at last (sym c.if-serves.ensures))
+    pair_may c.args.self.now Write c.args.at last refl c.requires (served c.args.self.now c.near.result Write c.args.at last (sym c.if-serves.ensures))

@@ -3,5 +3,5 @@ use Rattle.access.specs.declared.stop.Access.TheVariants.{Write}
 use Rattle.access.proofs.Spans.{quad_may}
 use Rattle.access.proofs.reach.Reach.may_write_quad_anew.Goals as goal
 
-pub returns-then-find : goal.returns-then-find
-returns-then-find c = quad_may c.args.self.now Write c.args.at c.requires (sym c.if-find.ensures)
+pub returns-then-spans : goal.returns-then-spans
+returns-then-spans c = quad_may c.args.self.now Write c.args.at c.requires (sym c.if-spans.ensures)

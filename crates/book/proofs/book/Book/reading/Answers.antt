@@ -6,5 +6,5 @@ pub returns : goal.returns
 unfolding reading
 returns c =
     let b = c.args.self.now in
-    let e = c.read_word.ensures in
-    record { is = e; laid = laid b.tables b.sound c.args.word c.read_word.result e; sole = only b.tables b.sound c.args.word c.read_word.result e; again = backs b.tables b.sound c.args.word c.read_word.result e }
+    let e = c.look_up.ensures in
+    record { is = e; laid = laid b.tables b.sound c.args.word c.look_up.result e; sole = only b.tables b.sound c.args.word c.look_up.result e; again = backs b.tables b.sound c.args.word c.look_up.result e }

@@ -3,7 +3,7 @@ use Rattle.word.specs.Bytes as bytes
 use Rattle.access.specs.Access.{Viewed, half_at, sight_of}
 use Rattle.access.specs.declared.stop.Access.TheVariants.{Read}
 use Rattle.access.proofs.Spans.{pair_read, served}
-use Rattle.access.proofs.view.View.half.Goals as goal
+use Rattle.access.proofs.view.View.pair.Goals as goal
 
 pub returns-then-serves : goal.returns-then-serves
 returns-then-serves g c =
@@ -11,5 +11,5 @@ returns-then-serves g c =
     let bs = g.S.Store.bytes c.self.inside.store.now in
     let reach = c.self.inside.reach.now in
     ap (λ (n : ℕ). Ok n) (c.half_of.ensures ∙ (λ i. bytes.half (c.read.ensures i) (c.read-then-serves.ensures i)))
-    ∙ pair_read reach bs at (at + 1) refl c.requires (served reach c.get.result Read at (at + 1) (sym c.if-serves.ensures))
+    ∙ pair_read reach bs at (at + 1) refl c.requires (served reach c.near.result Read at (at + 1) (sym c.if-serves.ensures))
     ∙ ap (λ (v : Viewed). half_at (sight_of v).look at) c.self.view_is
