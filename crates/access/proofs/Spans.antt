@@ -1,9 +1,11 @@
 -- What one grant has, its bay may be asked byte by byte.
-use Rattle.std.proofs.Common.{◌≡◌, ℕ, zero, suc, ◌+◌, ◌%◌, ◌<◌, ◌≤◌, ◌&&◌, ◌||◌, ◌⊎◌, Bool, true, false, List, [], ◌∷◌, Some, None, Ok, Err, Option, Result, refl, sym, ap, ◌∙◌, inl, inr, arith, cond, get_or, slice_index_or, leb}
+use Rattle.std.proofs.Common.{◌≡◌, ℕ, zero, suc, ◌+◌, ◌-◌, ◌%◌, ◌<◌, ◌≤◌, ◌&&◌, ◌||◌, ◌⊎◌, Bool, true, false, List, [], ◌∷◌, Some, None, Ok, Err, Option, Result, refl, sym, ap, ◌∙◌, inl, inr, arith, cond, get_or, slice_index_or, leb}
 use Rattle.std.proofs.lemmas.Bool.Decides.{nat_tests}
 use Rattle.std.specs.List.{list_any}
+use Rattle.std.specs.Prelude.{replicate}
 use Rattle.word.specs.Bytes as bytes
-use Rattle.access.specs.Access.{allows, bind, checked, covers_all, full_may, half_at, half_may, permits, seen, serves, spans}
+use Rattle.access.specs.Access.{allows, bind, checked, covers_all, full_may, half_at, half_may, permits, seen}
+use Rattle.access.specs.Near.{Among, no_bytes, spans}
 use Rattle.access.specs.declared.bay.Bay.{Bay}
 use Rattle.access.specs.declared.bay.Grant.{Grant}
 use Rattle.access.specs.declared.stop.Access.{Access}
@@ -53,12 +55,16 @@ asked w at b = cond b (Ok tt) (Err (record { access = w; byte = at }))
 abbrev look_both : Bay → List ℕ → ℕ → ℕ → Bool → Bool → Result ℕ Denial
 look_both bay bs at m a b = bind (bind (asked Read at a) (λ _. Ok (get_or bs at 0))) (λ high. bind (bind (asked Read m b) (λ _. Ok (get_or bs m 0))) (λ low. Ok (bytes.half high low)))
 
-pub pair_read : (bay : Bay) (bs : List ℕ) (at next : ℕ) → next ≡ at + 1 → at < 65535 → spans bay Read at next ≡ true → Ok (bytes.half (get_or bs at 0) (get_or bs next 0)) ≡ half_at (seen bay bs) at
-pair_read bay bs at next n h e =
+pub pair_read : (bay : Bay) (bs two : List ℕ) (at : ℕ) → two ≡ get_or bs (at - at % 2) 0 ∷ get_or bs (at - at % 2 + 1) 0 ∷ [] → at % 2 ≡ 0 → at < 65536 → spans bay Read at (at + 1) ≡ true → Ok (bytes.half (get_or two 0 0) (get_or two 1 0)) ≡ half_at (seen bay bs) at
+pair_read bay bs two at t even h e =
     let m : (at + 1) % 65536 ≡ at + 1 = omega arith in
-    let k : allows bay Read at ≡ true = part bay Read at next at at (omega arith) (omega arith) e in
-    let l : allows bay Read ((at + 1) % 65536) ≡ true = ap (allows bay Read) m ∙ part bay Read at next (at + 1) (at + 1) (omega arith) (omega arith) e in
-    ap (λ (j : ℕ). Ok (bytes.half (get_or bs at 0) (get_or bs j 0))) (n ∙ sym m) ∙ sym (λ i. look_both bay bs at ((at + 1) % 65536) (k i) (l i))
+    let a : at - at % 2 ≡ at = omega arith in
+    let b : at - at % 2 + 1 ≡ (at + 1) % 65536 = omega arith in
+    let k : allows bay Read at ≡ true = part bay Read at (at + 1) at at (omega arith) (omega arith) e in
+    let l : allows bay Read ((at + 1) % 65536) ≡ true = ap (allows bay Read) m ∙ part bay Read at (at + 1) (at + 1) (at + 1) (omega arith) (omega arith) e in
+    ap (λ (two : List ℕ). Ok (bytes.half (get_or two 0 0) (get_or two 1 0))) t
+    ∙ (λ i. Ok (bytes.half (get_or bs (a i) 0) (get_or bs (b i) 0)))
+    ∙ sym (λ i. look_both bay bs at ((at + 1) % 65536) (k i) (l i))
 
 pub pair_may : (bay : Bay) (w : Access) (at next : ℕ) → next ≡ at + 1 → at < 65535 → spans bay w at next ≡ true → Ok tt ≡ half_may (checked bay w) at
 pair_may bay w at next n h e =
@@ -74,11 +80,12 @@ quad_may bay w at h e =
     let low = pair_may bay w (at + 2) (at + 3) (omega arith) (omega arith) (part bay w at (at + 3) (at + 2) (at + 3) (omega arith) (omega arith) e) in
     (λ i. bind (high i) (λ _. (low ∙ ap (half_may (checked bay w)) (sym m)) i))
 
--- one grant that serves is enough
-served_among : (gs : List (Option Grant)) (i : ℕ) (w : Access) (a b : ℕ) → covers_all (slice_index_or gs i None) w a b ≡ true → list_any (λ g. covers_all g w a b) gs ≡ true
-served_among [] i w a b e = cc
-served_among (g ∷ gs) zero w a b e = or_first (covers_all g w a b) (list_any (λ g. covers_all g w a b) gs) e
-served_among (g ∷ gs) (suc i) w a b e = or_second (covers_all g w a b) (list_any (λ g. covers_all g w a b) gs) (served_among gs i w a b e)
+none_has : (w : Access) (a b : ℕ) → a ≤ b → covers_all (Some no_bytes) w a b ≡ true → ⊥
+none_has w a zero h e = grind (arith, nat_tests)
+none_has w a (suc b) h e = grind (arith, nat_tests)
 
-pub served : (bay : Bay) (i : ℕ) (w : Access) (a b : ℕ) → serves bay i w a b ≡ true → spans bay w a b ≡ true
-served bay i w a b e = served_among bay.grants i w a b e
+-- no bytes are had by grants that have none
+pub none_near : (bay : Bay) (n page : ℕ) → Among (slice_index_or (replicate n no_bytes) page no_bytes) bay
+none_near bay zero page w a b h e = absurd (none_has w a b h e)
+none_near bay (suc n) zero w a b h e = absurd (none_has w a b h e)
+none_near bay (suc n) (suc page) w a b h e = none_near bay n page w a b h e

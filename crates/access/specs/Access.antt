@@ -1,5 +1,5 @@
 -- Which bytes a step may reach, and how items of one, two and four bytes are read and claimed.
-use Rattle.std.specs.Prelude.{ℕ, zero, suc, ◌+◌, ◌-◌, ◌%◌, Bool, true, false, cond, ◌&&◌, List, Some, None, Ok, Err, Option, Result, nat_le, slice_index, slice_index_or}
+use Rattle.std.specs.Prelude.{ℕ, zero, suc, ◌+◌, ◌-◌, ◌%◌, Bool, true, false, cond, ◌&&◌, List, Some, None, Ok, Err, Option, Result, nat_le, slice_index}
 use Rattle.std.specs.List.{list_any}
 use Rattle.word.specs.Bytes as bytes
 use Rattle.access.specs.declared.bay.Bay.{Bay}
@@ -41,14 +41,6 @@ granted gs w at = list_any (λ g. covers g w at) gs
 -- some grant of the bay has the byte, and is of a kind that lets this be done to it
 abbrev pub allows : Bay → Access → ℕ → Bool
 allows bay w at = granted bay.grants w at
-
--- some grant has all the bytes from a to b
-abbrev pub spans : Bay → Access → ℕ → ℕ → Bool
-spans bay w a b = list_any (λ g. covers_all g w a b) bay.grants
-
--- the grant at a place has them
-abbrev pub serves : Bay → ℕ → Access → ℕ → ℕ → Bool
-serves bay i w a b = covers_all (slice_index_or bay.grants i None) w a b
 
 -- each of n bytes, from an address on; past 65,535 there is none
 abbrev pub allows_all : Bay → Access → ℕ → ℕ → Bool

@@ -1,3 +1,4 @@
 pub mod Stops
 pub mod Shown
 pub mod Access
+pub mod Near

@@ -3,7 +3,6 @@
 
 mod bay;
 mod item;
-mod places;
 mod reach;
 mod show;
 mod stop;

@@ -1,5 +1,5 @@
 ghost use Rattle.access.specs.Access.{full_at, half, half_at, item_may, item_read, sight_of};
-ghost use Rattle.std.specs.Prelude.{◌≡◌, ◌<◌};
+ghost use Rattle.std.specs.Prelude.{◌≡◌, ◌%◌};
 
 use crate::item::Item;
 use crate::reach::Reach;
@@ -31,16 +31,24 @@ impl<'a, S: Store> View<'a, S> {
         View { store, reach }
     }
 
+    // The same view once more: what a function that stays one is lent must stand in memory, and what a step looks through should not.
+    #[inline(always)]
+    pub fn again(&self) -> View<'a, S>
+        ensures { result ≡ self.now }
+    {
+        View::new(self.store, self.reach)
+    }
+
     #[inline(always)]
     pub(crate) fn byte(&self, at: u16) -> Result<u8, Denial>
         ensures { result ≡ (sight_of self.now).look at }
     {
         let reach = self.reach;
-        if reach.serves(reach.near(at), Access::Read, at, at) {
+        if reach.serves(Access::Read, at, at) {
             return Ok(self.store.read(at));
         }
         // Taken apart, here and below: as it stands it would be made in memory, and so would what the near grant serves.
-        Ok(self.byte_anew(at)?)
+        Ok(self.again().byte_anew(at)?)
     }
 
     #[inline(never)]
@@ -54,23 +62,25 @@ impl<'a, S: Store> View<'a, S> {
 
     #[inline(always)]
     pub(crate) fn pair(&self, at: u16) -> Result<u16, Denial>
-        requires { at < 65535 }
+        requires { at % 2 ≡ 0 }
         ensures { result ≡ half_at (sight_of self.now).look at }
     {
         let reach = self.reach;
-        if reach.serves(reach.near(at), Access::Read, at, at + 1) {
-            return Ok(half_of(self.store.read(at), self.store.read(at + 1)));
+        if reach.serves(Access::Read, at, at + 1) {
+            let [high, low] = self.store.read_half(at);
+            return Ok(half_of(high, low));
         }
-        Ok(self.pair_anew(at)?)
+        Ok(self.again().pair_anew(at)?)
     }
 
     #[inline(never)]
     fn pair_anew(&self, at: u16) -> Result<u16, Denial>
-        requires { at < 65535 }
+        requires { at % 2 ≡ 0 }
         ensures { result ≡ half_at (sight_of self.now).look at }
     {
         if self.reach.spans(Access::Read, at, at + 1) {
-            return Ok(half_of(self.store.read(at), self.store.read(at + 1)));
+            let [high, low] = self.store.read_half(at);
+            return Ok(half_of(high, low));
         }
         let high = self.byte_anew(at)?;
         let low = self.byte_anew(at + 1)?;
@@ -80,7 +90,7 @@ impl<'a, S: Store> View<'a, S> {
     // A fullword by its halves, both most often under the near grant.
     #[inline(always)]
     pub(crate) fn quad(&self, at: u16) -> Result<u32, Denial>
-        requires { at < 65533 }
+        requires { at % 4 ≡ 0 }
         ensures { result ≡ full_at (sight_of self.now).look at }
     {
         let high = self.pair(at)?;

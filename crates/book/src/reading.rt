@@ -1,5 +1,5 @@
 ghost use Rattle.std.specs.Prelude.{◌≡◌, ◌/◌, ◌%◌, ◌<◌};
-ghost use Rattle.book.specs.Readings.{fits, pick, m_of, d_of, in_l, in_a, meaning, reading};
+ghost use Rattle.book.specs.Readings.{fits, pick, m_of, d_of, in_l, in_a, reading};
 ghost use Rattle.book.specs.Laws.{Laid, Sole, Backs};
 ghost use Rattle.code.specs.declared.reading.Reading.TheVariants.{Defined};
 

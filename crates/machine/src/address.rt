@@ -61,12 +61,12 @@ pub(crate) fn form<S: Store>(
     match mode.format {
         Format::A1 => Ok(scaled),
         Format::A2 => Ok(base_of(r, mode.m).wrapping_add(scaled)),
-        Format::A3 => form_indirect(mode.d.wrapping_mul(2), length, r.x, view),
+        Format::A3 => form_indirect(mode.d.wrapping_mul(2), length, r.x, &view.again()),
         Format::A4 => form_indirect(
             base_of(r, mode.m).wrapping_add(mode.d.wrapping_mul(2)),
             length,
             r.x,
-            view,
+            &view.again(),
         ),
         Format::A5 => Ok(
             far_base_of(r, mode.m)

@@ -87,6 +87,7 @@ fn operate(operation: Operation, bit: u8, registers: &mut Registers)
 }
 
 // The control byte has the operation in its high half and the bit's number in its low half.
+#[inline(always)]
 pub(crate) fn control(byte: u8, registers: &mut Registers) -> Result<Option<Pending>, Cause>
     ensures answers { (v : Sight) → result ≡ to_write (perform v (controlled byte (advanced registers.old))) }
     ensures registers { (v : Sight) → registers.new ≡ settled registers.old (perform v (controlled byte (advanced registers.old))) }

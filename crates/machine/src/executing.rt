@@ -67,7 +67,6 @@ pub fn execute<S: Store>(
     ensures registers { registers.new ≡ settled registers.old (does name mode (advanced registers.old) view.now.bay view.now.bytes) }
 {
     let d = mode.d;
-    let x = registers.x;
     let literal = u32::from(d);
     match name {
         Name::Ldb => ldb(mode, registers, view),
@@ -101,18 +100,18 @@ pub fn execute<S: Store>(
         Name::Sbz => sbz(mode, registers, view),
         Name::Bi => bi(mode, registers, view),
         Name::Bli => bli(mode, registers, view),
-        Name::Bitx => control(indexed(d, x), registers),
+        Name::Bitx => control(indexed(d, registers.x), registers),
         Name::Bitl => control(low_byte(d), registers),
-        Name::Mbs | Name::Cpbs | Name::Trbs | Name::Scbs | Name::Mhs if x == 0 => {
+        Name::Mbs | Name::Cpbs | Name::Trbs | Name::Scbs | Name::Mhs if registers.x == 0 => {
             registers.advance();
             registers.end_string();
             Ok(None)
         }
-        Name::Mbs => move_byte(registers, move_nearer(x), view),
-        Name::Cpbs => compare(registers, move_nearer(x), view),
-        Name::Trbs => translate(registers, move_nearer(x), view),
-        Name::Scbs => scan(registers, move_nearer(x), view),
-        Name::Mhs => move_half(registers, move_nearer(x), view),
+        Name::Mbs => move_byte(registers, move_nearer(registers.x), view),
+        Name::Cpbs => compare(registers, move_nearer(registers.x), view),
+        Name::Trbs => translate(registers, move_nearer(registers.x), view),
+        Name::Scbs => scan(registers, move_nearer(registers.x), view),
+        Name::Mhs => move_half(registers, move_nearer(registers.x), view),
         Name::Hrk => Err(Cause::Halt),
         Name::Ldl => {
             registers.advance();

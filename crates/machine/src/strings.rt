@@ -75,6 +75,7 @@ fn transfer<T: Stored, S: Store>(from: u16, to: u16, view: &View<S>) -> Result<P
 // The step of an element takes the registers, the new X and the view, as its rule takes the registers and the new X: a value of the three
 // would be made for one call.
 // Bytes and halfwords have a function each: the places of bytes are not multiplied by 1 in the rules, nor here.
+#[inline(always)]
 pub(crate) fn move_byte<S: Store>(
     registers: &mut Registers,
     x: u16,
@@ -93,6 +94,7 @@ pub(crate) fn move_byte<S: Store>(
     Ok(Some(pending))
 }
 
+#[inline(always)]
 pub(crate) fn move_half<S: Store>(
     registers: &mut Registers,
     x: u16,
@@ -112,6 +114,7 @@ pub(crate) fn move_half<S: Store>(
     Ok(Some(pending))
 }
 
+#[inline(always)]
 pub(crate) fn translate<S: Store>(
     registers: &mut Registers,
     x: u16,
@@ -128,6 +131,7 @@ pub(crate) fn translate<S: Store>(
     Ok(Some(pending))
 }
 
+#[inline(always)]
 pub(crate) fn compare<S: Store>(
     registers: &mut Registers,
     x: u16,
@@ -143,6 +147,7 @@ pub(crate) fn compare<S: Store>(
     Ok(None)
 }
 
+#[inline(always)]
 pub(crate) fn scan<S: Store>(
     registers: &mut Registers,
     x: u16,

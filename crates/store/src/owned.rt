@@ -31,6 +31,11 @@ impl Store for Owned {
         self.held[usize::from(address)]
     }
 
+    fn read_half(&self, address: u16) -> [u8; 2] {
+        let at = usize::from(address - address % 2);
+        [self.held[at], self.held[at + 1]]
+    }
+
     fn write(&mut self, address: u16, byte: u8) {
         let at = usize::from(address);
         self.held[at] = byte;

@@ -1,4 +1,4 @@
-ghost use Rattle.std.specs.Prelude.{◌≡◌, ℕ, List, length, slice_index, slice_set};
+ghost use Rattle.std.specs.Prelude.{◌≡◌, ◌+◌, ◌-◌, ◌%◌, [], ◌∷◌, ℕ, List, length, slice_index, slice_set};
 
 // A store by the list of its bytes. Reading alters none; writing alters one and no other; neither refuses.
 pub trait Store {
@@ -9,6 +9,10 @@ pub trait Store {
 
     fn read(&self, address: u16) -> u8
         ensures { result ≡ slice_index (bytes self.now) address };
+
+    // The two bytes of the halfword in which the address lies.
+    fn read_half(&self, address: u16) -> [u8; 2]
+        ensures { result ≡ slice_index (bytes self.now) (address - address % 2) ∷ slice_index (bytes self.now) (address - address % 2 + 1) ∷ [] };
 
     fn write(&mut self, address: u16, byte: u8)
         ensures bytes { bytes self.new ≡ slice_set (bytes self.old) address byte }

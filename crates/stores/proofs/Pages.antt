@@ -1,5 +1,5 @@
 -- Tabulated bytes, and pages through a table.
-use Rattle.std.proofs.Common.{◌≡◌, ℕ, zero, suc, ◌/◌, ◌<◌, ◌≢◌, ◌⊎◌, ◌&&◌, ◌||◌, Bool, true, false, cond, eqb, ltb, not, List, [], ◌∷◌, length, get_or, set, sym, refl, ap, ◌∙◌, inl, inr, arith, length-set}
+use Rattle.std.proofs.Common.{◌≡◌, ℕ, zero, suc, ◌+◌, ◌-◌, ◌/◌, ◌%◌, ◌<◌, ◌≢◌, ◌⊎◌, ◌&&◌, ◌||◌, Bool, true, false, cond, eqb, ltb, not, List, [], ◌∷◌, length, get_or, set, sym, refl, ap, ◌∙◌, inl, inr, arith, length-set}
 use Rattle.std.proofs.lemmas.List.{get_or-replicate, get_or-set_other, get_or-set_same}
 use Rattle.std.proofs.lemmas.Grind.{same_number_lists}
 use Rattle.std.proofs.lemmas.Bool.{eq-eqb, ltb-true}
@@ -95,6 +95,15 @@ mapped_write t xs ys a p v once n size la q e =
     (get_or-set_same xs (place t a) v 0 (let l = place_less t (small_of t once) n a la in omega arith))
     (λ k l d. get_or-set_other xs (place t a) (place t k) v 0 (λ z. d (place_once t (once_of t once) n k a l la z)))
 
+-- a halfword lies in one page, of the store and of the one below
+pub mapped_read_half : (t xs : List ℕ) (a p : ℕ) (r : List ℕ) → r ≡ get_or xs (p - p % 2) 0 ∷ get_or xs (p - p % 2 + 1) 0 ∷ [] → p ≡ place t a → a < 65536 → r ≡ get_or (mapped t xs) (a - a % 2) 0 ∷ get_or (mapped t xs) (a - a % 2 + 1) 0 ∷ []
+mapped_read_half t xs a p r e q la =
+    let first : (a - a % 2) / 1024 ≡ a / 1024 = omega arith in
+    let second : (a - a % 2 + 1) / 1024 ≡ a / 1024 = omega arith in
+    let f = ap (λ (j : ℕ). get_or t j 0) first in
+    let s = ap (λ (j : ℕ). get_or t j 0) second in
+    e ∙ (λ i. mapped_read t xs (a - a % 2) (p - p % 2) _ refl (omega arith) (omega arith) i ∷ mapped_read t xs (a - a % 2 + 1) (p - p % 2 + 1) _ refl (omega arith) (omega arith) i ∷ [])
+
 imaged_read : (c : List Bool) (im xs : List ℕ) (a : ℕ) → a < 65536 → seen c im xs a ≡ get_or (imaged c im xs) a 0
 imaged_read c im xs a la = sym (at_tabulate 65536 (seen c im xs) a la)
 
@@ -119,3 +128,13 @@ imaged_copied c im xs a b q la e = sym (ap (λ (x : Bool). cond x (get_or xs b 0
 
 pub imaged_uncopied : (c : List Bool) (im xs : List ℕ) (a b : ℕ) → b ≡ a → a < 65536 → get_or c (b / 1024) false ≡ false → get_or im b 0 ≡ get_or (imaged c im xs) a 0
 imaged_uncopied c im xs a b q la e = sym (ap (λ (x : Bool). cond x (get_or xs b 0) (get_or im b 0)) e) ∙ ap (seen c im xs) q ∙ imaged_read c im xs a la
+
+pub imaged_half_copied : (c : List Bool) (im xs : List ℕ) (a b : ℕ) → b ≡ a - a % 2 → a < 65536 → get_or c (b / 1024) false ≡ true → get_or xs b 0 ∷ get_or xs (b + 1) 0 ∷ [] ≡ get_or (imaged c im xs) (a - a % 2) 0 ∷ get_or (imaged c im xs) (a - a % 2 + 1) 0 ∷ []
+imaged_half_copied c im xs a b q la e =
+    let page : (b + 1) / 1024 ≡ b / 1024 = omega arith in
+    λ i. imaged_copied c im xs (a - a % 2) b q (omega arith) e i ∷ imaged_copied c im xs (a - a % 2 + 1) (b + 1) (omega arith) (omega arith) (ap (λ (j : ℕ). get_or c j false) page ∙ e) i ∷ []
+
+pub imaged_half_uncopied : (c : List Bool) (im xs : List ℕ) (a b : ℕ) → b ≡ a - a % 2 → a < 65536 → get_or c (b / 1024) false ≡ false → get_or im b 0 ∷ get_or im (b + 1) 0 ∷ [] ≡ get_or (imaged c im xs) (a - a % 2) 0 ∷ get_or (imaged c im xs) (a - a % 2 + 1) 0 ∷ []
+imaged_half_uncopied c im xs a b q la e =
+    let page : (b + 1) / 1024 ≡ b / 1024 = omega arith in
+    λ i. imaged_uncopied c im xs (a - a % 2) b q (omega arith) e i ∷ imaged_uncopied c im xs (a - a % 2 + 1) (b + 1) (omega arith) (omega arith) (ap (λ (j : ℕ). get_or c j false) page ∙ e) i ∷ []

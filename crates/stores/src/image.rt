@@ -68,6 +68,17 @@ impl Store for Image<'_> {
         }
     }
 
+    // No halfword lies across two pages.
+    fn read_half(&self, address: u16) -> [u8; 2] {
+        let at = usize::from(address - address % 2);
+        let page = at / 1024;
+        if self.copied[page] {
+            [self.work[at], self.work[at + 1]]
+        } else {
+            [self.image[at], self.image[at + 1]]
+        }
+    }
+
     fn write(&mut self, address: u16, byte: u8) {
         self.own(usize::from(address) / 1024);
         put(self.work, address, byte);

@@ -34,6 +34,10 @@ impl<S: Store> Store for Lending<'_, S> {
         self.store.read(address)
     }
 
+    fn read_half(&self, address: u16) -> [u8; 2] {
+        self.store.read_half(address)
+    }
+
     fn write(&mut self, address: u16, byte: u8) {
         self.store.write(address, byte);
     }

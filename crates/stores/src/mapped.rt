@@ -57,6 +57,11 @@ impl<S: Store> Store for Mapped<S> {
         self.below.read(self.place_of(address))
     }
 
+    // No halfword lies across two pages.
+    fn read_half(&self, address: u16) -> [u8; 2] {
+        self.below.read_half(self.place_of(address))
+    }
+
     fn write(&mut self, address: u16, byte: u8) {
         let place = self.place_of(address);
         self.below.write(place, byte);

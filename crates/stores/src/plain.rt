@@ -31,6 +31,11 @@ impl Store for Plain<'_> {
         self.memory[usize::from(address)]
     }
 
+    fn read_half(&self, address: u16) -> [u8; 2] {
+        let at = usize::from(address - address % 2);
+        [self.memory[at], self.memory[at + 1]]
+    }
+
     fn write(&mut self, address: u16, byte: u8) {
         put(self.memory, address, byte);
     }

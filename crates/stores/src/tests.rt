@@ -44,6 +44,13 @@ fn around(store: &impl Store) -> [u8; 6] {
     [1023, 1024, 1025, 2046, 2047, 2048].map(|at| store.read(at))
 }
 
+// The halfwords of the same bytes, by either address, and the last of all.
+fn halves(store: &impl Store) -> [[u8; 2]; 6] {
+    [1023, 1024, 1025, 2046, 2047, 65535].map(|at| store.read_half(at))
+}
+
+const HALVES: [[u8; 2]; 6] = [[7, 7], [1, 7], [1, 7], [7, 2], [7, 2], [7, 7]];
+
 fn at(memory: &[u8], places: [usize; 3]) -> [u8; 3] {
     places.map(|place| memory.get(place).copied().unwrap_or(0))
 }
@@ -54,6 +61,7 @@ fn a_page_of_lent_memory(rt: HostRuntime) -> Result<(), Fail> {
     let mut store = plain(&rt, &mut memory);
     write_both(&mut store);
     assert_eq!(rt; around(&store), [7, 1, 7, 7, 2, 7]);
+    assert_eq!(rt; halves(&store), HALVES);
     assert_eq!(rt; at(&memory, [1023, 1024, 1025]), [7, 1, 7]);
     assert_eq!(rt; at(&memory, [2046, 2047, 2048]), [7, 2, 7]);
     Ok(())
@@ -67,6 +75,7 @@ fn a_page_of_an_image(rt: HostRuntime) -> Result<(), Fail> {
     let mut store = image_of(&rt, &image, &mut work);
     write_both(&mut store);
     assert_eq!(rt; around(&store), [7, 1, 7, 7, 2, 7]);
+    assert_eq!(rt; halves(&store), HALVES);
     assert_eq!(rt; &store.copied()[0..3], [false, true, false].as_slice());
     assert_eq!(rt; at(&work, [1023, 1024, 1025]), [9, 1, 7]);
     assert_eq!(rt; at(&work, [2046, 2047, 2048]), [7, 2, 9]);
@@ -84,6 +93,7 @@ fn a_page_through_a_table(rt: HostRuntime) -> Result<(), Fail> {
         let mut store = Mapped::new(Lending::new(&mut below), table);
         write_both(&mut store);
         assert_eq!(rt; around(&store), [7, 1, 7, 7, 2, 7]);
+        assert_eq!(rt; halves(&store), HALVES);
     }
     assert_eq!(rt;
         [

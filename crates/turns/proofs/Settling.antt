@@ -9,6 +9,11 @@ use Rattle.machine.specs.declared.registers.Registers.{Registers}
 use Rattle.turns.specs.Step.{answer, bytes_after, committed, registers_after, stopped}
 
 module _ (s : ℕ) (r r' : Registers) (bs : List ℕ) where
+  -- the address of a stop is read after it: S is as it was
+  pub as_it_was : (q : Result Effect Cause) → r' ≡ settled r q → stopped r'.s (to_write q) ≡ stopped r.s (to_write q)
+  as_it_was (Ok e) h = refl
+  as_it_was (Err c) h = ap (λ (v : Registers). Err (record { cause = c; address = v.s })) h
+
   pub went_answers : (q : Result Effect Cause) (p : Option Pending) → Ok p ≡ stopped s (to_write q) → Ok tt ≡ answer (stopped s q)
   went_answers (Ok e) p h = refl
   went_answers (Err c) p h = cc

@@ -127,9 +127,8 @@ pub(crate) fn obey_next<S: Store>(
     ensures bytes { S.Store.bytes store.new ≡ bytes_after (S.Store.bytes store.old) (stepped (reading book.now.tables) registers.old (sight reach.now (S.Store.bytes store.old))) }
     ensures footing { S.Store.footing store.new ≡ S.Store.footing store.old }
 {
-    let address = registers.s;
     let res = obey_word(book, registers, &View::new(store, reach));
-    commit(store, at_address(address, res)?);
+    commit(store, at_address(registers.s, res)?);
     Ok(())
 }
 

@@ -1,9 +1,9 @@
-use Rattle.std.proofs.Common.{◌+◌, refl, sym}
+use Rattle.std.proofs.Common.{◌+◌, refl}
 use Rattle.access.specs.declared.stop.Access.TheVariants.{Write}
-use Rattle.access.proofs.Spans.{pair_may, served}
+use Rattle.access.proofs.Spans.{pair_may}
 use Rattle.access.proofs.reach.Reach.may_write_pair.Goals as goal
 
 pub returns-then-serves : goal.returns-then-serves
 returns-then-serves c =
     let last = c.args.at + 1 in
-    pair_may c.args.self.now Write c.args.at last refl c.requires (served c.args.self.now c.near.result Write c.args.at last (sym c.if-serves.ensures))
+    pair_may c.args.self.now Write c.args.at last refl c.requires (c.if-serves.ensures refl)

@@ -1,9 +1,9 @@
-use Rattle.std.proofs.Common.{◌+◌, sym}
+use Rattle.std.proofs.Common.{◌+◌, refl}
 use Rattle.access.specs.declared.stop.Access.TheVariants.{Write}
-use Rattle.access.proofs.Spans.{quad_may, served}
+use Rattle.access.proofs.Spans.{quad_may}
 use Rattle.access.proofs.reach.Reach.may_write_quad.Goals as goal
 
 pub returns-then-serves : goal.returns-then-serves
 returns-then-serves c =
     let last = c.args.at + 3 in
-    quad_may c.args.self.now Write c.args.at c.requires (served c.args.self.now c.near.result Write c.args.at last (sym c.if-serves.ensures))
+    quad_may c.args.self.now Write c.args.at c.requires (c.if-serves.ensures refl)

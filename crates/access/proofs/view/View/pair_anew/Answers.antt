@@ -1,5 +1,4 @@
-use Rattle.std.proofs.Common.{◌+◌, ℕ, Ok, ap, refl, sym, ◌∙◌}
-use Rattle.word.specs.Bytes as bytes
+use Rattle.std.proofs.Common.{ℕ, Ok, ap, sym, ◌∙◌}
 use Rattle.access.specs.Access.{Viewed, half_at, sight_of}
 use Rattle.access.proofs.Spans.{pair_read}
 use Rattle.access.proofs.view.View.pair_anew.Goals as goal
@@ -8,6 +7,6 @@ pub returns-then-spans : goal.returns-then-spans
 returns-then-spans g c =
     let at : ℕ = c.args.at in
     let bs = g.S.Store.bytes c.self.inside.store.now in
-    ap (λ (n : ℕ). Ok n) (c.half_of.ensures ∙ (λ i. bytes.half (c.read.ensures i) (c.read-then-spans.ensures i)))
-    ∙ pair_read c.self.inside.reach.now bs at (at + 1) refl c.requires (sym c.if-spans.ensures)
+    ap (λ (n : ℕ). Ok n) c.half_of.ensures
+    ∙ pair_read c.self.inside.reach.now bs c.read_half.result at c.read_half.ensures c.requires c.ranges.at.fits (sym c.if-spans.ensures)
     ∙ ap (λ (v : Viewed). half_at (sight_of v).look at) c.self.view_is
