@@ -1,4 +1,5 @@
 pub mod Stops
 pub mod Shown
+pub mod Kinds
 pub mod Access
-pub mod Near
+pub mod Cache

@@ -4,7 +4,7 @@
 mod print;
 mod work;
 
-use inputs::{Failure, ended};
+use cli::{Failure, ended};
 use std::process::ExitCode;
 use work::assemble;
 

@@ -1,5 +1,5 @@
 use crate::print::print_listing;
-use inputs::{Failure, Fault, assembled, read_book, read_file, refuse_existing, words, write_new};
+use cli::{Failure, Fault, assembled, read_book, read_file, refuse_existing, words, write_new};
 use store::append_all;
 
 pub fn assemble(rt: &HostRuntime) -> Result<(), Failure> {

@@ -1,6 +1,6 @@
 -- The loop that wipes.
 use Rattle.std.proofs.Common.{◌≡◌, ℕ, zero, suc, ◌+◌, ◌<◌, ◌≤◌, Bool, true, false, cond, List, [], ◌∷◌, length, set, Option, sym, refl, ap, ◌∙◌, add-zero, add-suc, suc-add, zero-add, add-one, arith, length-set}
-use Rattle.access.specs.declared.bay.Grant.{Grant}
+use Rattle.access.specs.declared.rights.Grant.{Grant}
 use Rattle.bays.specs.Bays.{wiped}
 use Rattle.bays.specs.Grants.{writes}
 

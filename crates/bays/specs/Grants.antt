@@ -2,9 +2,9 @@
 use Rattle.std.specs.Prelude.{ℕ, suc, Bool, true, false, cond, not, ◌&&◌, List, [], ◌∷◌, length, Some, None, Option, nat_le, nat_lt, slice_set}
 use Rattle.std.specs.List.{list_any}
 use Rattle.access.specs.Access.{granted}
-use Rattle.access.specs.declared.bay.Grant.{Grant}
-use Rattle.access.specs.declared.bay.Kind.{Kind}
-use Rattle.access.specs.declared.bay.Kind.TheVariants as kind
+use Rattle.access.specs.declared.rights.Grant.{Grant}
+use Rattle.access.specs.declared.rights.Kind.{Kind}
+use Rattle.access.specs.declared.rights.Kind.TheVariants as kind
 use Rattle.access.specs.declared.stop.Access.TheVariants.{Read, Write}
 
 -- the byte lies in the grant's range

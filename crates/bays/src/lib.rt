@@ -2,14 +2,14 @@
 #![tactic(auto)]
 
 mod grants;
-mod record;
+mod bay;
 mod refusal;
 mod stage;
 mod table;
 mod wiping;
 
 pub use grants::{clash_with_any, first_vacant};
-pub use record::BayRecord;
+pub use bay::Bay;
 pub use refusal::Refusal;
 pub use stage::Stage;
 pub use table::Table;

@@ -2,11 +2,11 @@ ghost use Rattle.bays.specs.Bays.{wiped};
 ghost use Rattle.bays.specs.Grants.{writes};
 ghost use Rattle.std.specs.Prelude.{◌≡◌, if◌then◌else◌, slice_set};
 
-use access::{Access, Bay};
+use access::{Access, Rights};
 use store::Store;
 
 // The byte becomes zero if it is under a write grant of the bay.
-fn wipe_byte<S: Store>(store: &mut S, bay: &Bay, at: u16)
+fn wipe_byte<S: Store>(store: &mut S, bay: &Rights, at: u16)
     ensures bytes { S.Store.bytes store.new ≡ if writes bay.now.grants at then slice_set (S.Store.bytes store.old) at 0 else S.Store.bytes store.old }
     ensures footing { S.Store.footing store.new ≡ S.Store.footing store.old }
 {
@@ -16,7 +16,7 @@ fn wipe_byte<S: Store>(store: &mut S, bay: &Bay, at: u16)
 }
 
 // Every byte under a write grant of the bay becomes zero.
-pub fn wipe<S: Store>(store: &mut S, bay: &Bay)
+pub fn wipe<S: Store>(store: &mut S, bay: &Rights)
     ensures bytes { S.Store.bytes store.new ≡ wiped bay.now.grants 0 (S.Store.bytes store.old) }
     ensures footing { S.Store.footing store.new ≡ S.Store.footing store.old }
 {

@@ -2,9 +2,9 @@ use Rattle.std.proofs.Common.{◌≡◌, ℕ, zero, suc, ◌+◌, ◌*◌, ◌^�
 use Rattle.std.specs.Str.{bytes_eq}
 use Rattle.std.proofs.lemmas.Nat.{pow-add}
 use Rattle.std.proofs.lemmas.Bool.{and_parts, and_from, or_parts, or_from, ne_eqb, eqb-false, eqb-true, lt-ltb, cond_both, cases_Bool, cond-true, cond-false, not-true, true≢false}
-use Rattle.code.specs.declared.name.Name.{Name}
-use Rattle.code.specs.Spelling.{first}
-use Rattle.code.specs.Names.{rank, spelled}
+use Rattle.isa.specs.declared.name.Name.{Name}
+use Rattle.text.specs.Spelling.{first}
+use Rattle.isa.specs.Names.{rank, spelled}
 use Rattle.text.specs.Search.{Bytes}
 use Rattle.book.specs.Rows.{is_name, has_name}
 use Rattle.book.specs.Patterns.{length_at, bits, pattern_of, begins, meets, clashes}

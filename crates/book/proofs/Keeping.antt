@@ -1,10 +1,10 @@
 use Rattle.std.proofs.Common.{◌≡◌, ℕ, ◌+◌, Bool, true, false, not, eqb, [], ◌∷◌, ◌++◌, length, get_or, set, is_some, Some, None, Ok, Err, Option, Result, sym, refl, ap, subst, arith}
 use Rattle.std.proofs.lemmas.Bool.{or_parts, and_from, cond_both}
-use Rattle.code.specs.declared.name.Name.{Name}
-use Rattle.code.specs.Formats.{format_of}
-use Rattle.code.specs.declared.letter.Letter.{Letter}
-use Rattle.code.specs.declared.letter.Letter.TheVariants as letter
-use Rattle.code.specs.Names.{rank, names_of, named}
+use Rattle.isa.specs.declared.name.Name.{Name}
+use Rattle.isa.specs.Formats.{format_of}
+use Rattle.isa.specs.declared.letter.Letter.{Letter}
+use Rattle.isa.specs.declared.letter.Letter.TheVariants as letter
+use Rattle.isa.specs.Names.{rank, names_of, named}
 use Rattle.text.specs.Search.{Bytes, empty}
 use Rattle.text.specs.Numbers.{number_of}
 use Rattle.text.proofs.Digits.{number_within}

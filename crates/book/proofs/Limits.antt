@@ -1,7 +1,7 @@
 use Rattle.std.proofs.Common.{◌≡◌, ℕ, ◌<◌, Some, sym, arith}
 use Rattle.std.proofs.lemmas.Bool.{ltb-true}
-use Rattle.code.specs.declared.format.Format.{Format}
-use Rattle.code.specs.declared.format.Format.TheVariants.{A1, A2, A3, A4, A5, L, B}
+use Rattle.isa.specs.declared.format.Format.{Format}
+use Rattle.isa.specs.declared.format.Format.TheVariants.{A1, A2, A3, A4, A5, L, B}
 use Rattle.book.specs.declared.tables.Tables.{Tables}
 use Rattle.book.specs.Sound.{legal_pattern}
 use Rattle.book.specs.Put.{v_limit, pattern_at}

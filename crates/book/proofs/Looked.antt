@@ -1,6 +1,6 @@
 -- A table of readings holds what the tables say of each word.
 use Rattle.std.proofs.Common.{◌≡◌, ◌∙◌, ℕ, zero, suc, ◌+◌, ◌%◌, ◌<◌, ap, arith, slice_index_or}
-use Rattle.code.specs.declared.reading.Reading.TheVariants.{Undefined}
+use Rattle.isa.specs.declared.reading.Reading.TheVariants.{Undefined}
 use Rattle.book.specs.Readings.{reading, readings_from}
 use Rattle.book.specs.declared.tables.Tables.{Tables}
 

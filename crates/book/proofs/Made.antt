@@ -1,12 +1,12 @@
 use Rattle.std.proofs.Common.{◌≡◌, ℕ, suc, ◌+◌, ◌-◌, ◌*◌, ◌<◌, Bool, true, false, cond, eqb, ltb, List, [], ◌∷◌, get_or, ℤ, pos, negsuc, Some, None, Ok, Option, Result, sym, refl, ap, ◌∙◌, subst, inl, inr, arith}
-use Rattle.code.specs.declared.name.Name.{Name}
-use Rattle.code.specs.declared.name.Name.TheVariants.{Bitl}
-use Rattle.code.specs.declared.format.Format.{Format}
-use Rattle.code.specs.declared.format.Format.TheVariants.{A1, A2, A3, A4, A5, L, B}
-use Rattle.code.specs.Names.{rank}
+use Rattle.isa.specs.declared.name.Name.{Name}
+use Rattle.isa.specs.declared.name.Name.TheVariants.{Bitl}
+use Rattle.isa.specs.declared.format.Format.{Format}
+use Rattle.isa.specs.declared.format.Format.TheVariants.{A1, A2, A3, A4, A5, L, B}
+use Rattle.isa.specs.Names.{rank}
 use Rattle.book.specs.declared.tables.Tables.{Tables}
 use Rattle.std.proofs.lemmas.Bool.{eqb-true, ltb-true, cond_both, le-ltb}
-use Rattle.code.proofs.Ranks.{rank_tells}
+use Rattle.isa.proofs.Ranks.{rank_tells}
 use Rattle.word.specs.Fields.{as_signed, unsigned_in, signed_in}
 use Rattle.book.specs.Wholes.{word_of, branches}
 use Rattle.book.specs.Add.{need}

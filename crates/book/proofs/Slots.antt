@@ -1,7 +1,7 @@
 use Rattle.std.proofs.Common.{◌≡◌, List, Option}
 use Rattle.std.specs.List.{position}
 use Rattle.std.proofs.lemmas.Iterator.Adapters.{position_from-zero}
-use Rattle.code.specs.declared.name.Name.{Name}
+use Rattle.isa.specs.declared.name.Name.{Name}
 use Rattle.book.specs.Rows.{is_name}
 use Rattle.book.specs.Put.{number_in}
 

@@ -1,13 +1,13 @@
 use Rattle.std.proofs.Common.{◌≡◌, ℕ, zero, suc, ◌+◌, ◌/◌, ◌%◌, ◌<◌, ◌≤◌, true, false, cond, not, eqb, leb, List, [], ◌∷◌, get_or, ℤ, pos, Some, None, Option, sym, refl, ap, ◌∙◌, subst, ⊎_elim, arith}
-use Rattle.code.specs.declared.name.Name.{Name}
-use Rattle.code.specs.declared.name.Name.TheVariants.{Mbs, Cpbs, Trbs, Scbs, Mhs, Rk, Hrk, Sfn, Sim, Sfm}
-use Rattle.code.specs.declared.format.Format.{Format}
-use Rattle.code.specs.declared.format.Format.TheVariants.{A1, A2, A3, A4, A5, L, B}
-use Rattle.code.specs.declared.reading.Reading.TheVariants.{Defined}
-use Rattle.code.specs.Names.{rank}
+use Rattle.isa.specs.declared.name.Name.{Name}
+use Rattle.isa.specs.declared.name.Name.TheVariants.{Mbs, Cpbs, Trbs, Scbs, Mhs, Rk, Hrk, Sfn, Sim, Sfm}
+use Rattle.isa.specs.declared.format.Format.{Format}
+use Rattle.isa.specs.declared.format.Format.TheVariants.{A1, A2, A3, A4, A5, L, B}
+use Rattle.isa.specs.declared.reading.Reading.TheVariants.{Defined}
+use Rattle.isa.specs.Names.{rank}
 use Rattle.book.specs.declared.tables.Tables.{Tables}
 use Rattle.std.proofs.lemmas.Bool.{eq-eqb, ne_eqb, eqb-true, eqb-false, or_parts, and_parts, not-true, both_ways, cond-true, cond-false, lt-ltb, le-ltb, ltb-true, leb-true, cases_Bool}
-use Rattle.code.proofs.Ranks.{rank_tells}
+use Rattle.isa.proofs.Ranks.{rank_tells}
 use Rattle.book.specs.Patterns.{meets, clashes}
 use Rattle.book.specs.Sound.{between, reserved, legal_a, legal_l, legal_b, legal_pattern, free, parted}
 use Rattle.book.specs.Wholes.{whole_of, word_of}

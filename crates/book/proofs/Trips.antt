@@ -1,10 +1,10 @@
 use Rattle.std.proofs.Common.{◌≡◌, ℕ, true, ℤ, Ok, Err, Result, sym, ◌∙◌, subst, arith}
-use Rattle.code.specs.declared.name.Name.{Name}
-use Rattle.code.specs.declared.format.Format.{Format}
-use Rattle.code.specs.declared.reading.Reading.{Reading}
-use Rattle.code.specs.declared.reading.Reading.TheVariants.{Undefined, NoPattern, Defined}
+use Rattle.isa.specs.declared.name.Name.{Name}
+use Rattle.isa.specs.declared.format.Format.{Format}
+use Rattle.isa.specs.declared.reading.Reading.{Reading}
+use Rattle.isa.specs.declared.reading.Reading.TheVariants.{Undefined, NoPattern, Defined}
 use Rattle.book.specs.declared.tables.Tables.{Tables}
-use Rattle.book.specs.declared.unput.Unput.{Unput}
+use Rattle.book.specs.declared.unput.EncodeError.{EncodeError}
 use Rattle.book.specs.Sound.{sound}
 use Rattle.book.specs.Readings.{meaning, reading}
 use Rattle.book.specs.Put.{answered, put}
@@ -38,7 +38,7 @@ pub backs : (t : Tables) → sound t ≡ true → (w : ℕ) (r : Reading) → r 
 unfolding reading
 backs t s w r e = put_again t s w r (subst (Forth t w) (sym e) (forth t w))
 
-pub reads : (t : Tables) → sound t ≡ true → (n : Name) (f : Format) (m d : ℤ) (r : Result ℕ Unput) → answered r ≡ put t n f m d → Reads t n f m d r
+pub reads : (t : Tables) → sound t ≡ true → (n : Name) (f : Format) (m d : ℤ) (r : Result ℕ EncodeError) → answered r ≡ put t n f m d → Reads t n f m d r
 unfolding reading put
 reads t s n f m d (Ok w) e =
     let a = made t w n f m d (sym e) in

@@ -1,9 +1,9 @@
 use Rattle.std.specs.Prelude.{ℕ, cond, List, length, Some, None, Ok, Err, Option, Result, ◌==◌, slice_index, slice_set}
-use Rattle.code.specs.declared.name.Name.{Name}
-use Rattle.code.specs.Formats.{format_of}
-use Rattle.code.specs.declared.letter.Letter.{Letter}
-use Rattle.code.specs.declared.letter.Letter.TheVariants as letter
-use Rattle.code.specs.Names.{named}
+use Rattle.isa.specs.declared.name.Name.{Name}
+use Rattle.isa.specs.Formats.{format_of}
+use Rattle.isa.specs.declared.letter.Letter.{Letter}
+use Rattle.isa.specs.declared.letter.Letter.TheVariants as letter
+use Rattle.isa.specs.Names.{named}
 use Rattle.text.specs.Search.{Bytes}
 use Rattle.text.specs.Numbers.{number_of}
 use Rattle.book.specs.declared.tables.Tables.{Tables}

@@ -1,10 +1,10 @@
 use Rattle.std.specs.Prelude.{◌≡◌, ℕ, ℤ, pos, Ok, Err, Result}
-use Rattle.code.specs.declared.name.Name.{Name}
-use Rattle.code.specs.declared.format.Format.{Format}
-use Rattle.code.specs.declared.reading.Reading.{Reading}
-use Rattle.code.specs.declared.reading.Reading.TheVariants.{Undefined, NoPattern, Defined}
+use Rattle.isa.specs.declared.name.Name.{Name}
+use Rattle.isa.specs.declared.format.Format.{Format}
+use Rattle.isa.specs.declared.reading.Reading.{Reading}
+use Rattle.isa.specs.declared.reading.Reading.TheVariants.{Undefined, NoPattern, Defined}
 use Rattle.book.specs.declared.tables.Tables.{Tables}
-use Rattle.book.specs.declared.unput.Unput.{Unput}
+use Rattle.book.specs.declared.unput.EncodeError.{EncodeError}
 use Rattle.book.specs.Readings.{reading}
 use Rattle.book.specs.Put.{put}
 use Rattle.book.specs.Layout.{Lays}
@@ -36,6 +36,6 @@ pub record ReadsAs (t : Tables) (w : ℕ) (n : Name) (f : Format) (m d : ℤ) : 
   pub reads : reading t w ≡ Defined n f x d
 
 -- a word that was put together reads as what it was made from
-abbrev pub Reads : Tables → Name → Format → ℤ → ℤ → Result ℕ Unput → Type 0
+abbrev pub Reads : Tables → Name → Format → ℤ → ℤ → Result ℕ EncodeError → Type 0
 Reads t n f m d (Ok w) = ReadsAs t w n f m d
 Reads t n f m d (Err e) = Unit {0}

@@ -1,8 +1,8 @@
 use Rattle.std.specs.Prelude.{◌≡◌, ℕ, ◌+◌, ◌*◌, ◌<◌, ◌⊎◌, ℤ, pos, Some, None, slice_index_or}
-use Rattle.code.specs.declared.name.Name.{Name}
-use Rattle.code.specs.declared.name.Name.TheVariants.{Bitl}
-use Rattle.code.specs.declared.format.Format.{Format}
-use Rattle.code.specs.declared.format.Format.TheVariants.{A1, A2, A3, A4, A5, L, B}
+use Rattle.isa.specs.declared.name.Name.{Name}
+use Rattle.isa.specs.declared.name.Name.TheVariants.{Bitl}
+use Rattle.isa.specs.declared.format.Format.{Format}
+use Rattle.isa.specs.declared.format.Format.TheVariants.{A1, A2, A3, A4, A5, L, B}
 use Rattle.word.specs.Fields.{as_signed}
 use Rattle.book.specs.declared.tables.Tables.{Tables}
 use Rattle.book.specs.Wholes.{word_of, l_d}

@@ -1,25 +1,25 @@
 use Rattle.std.specs.Prelude.{ℕ, ◌+◌, ◌*◌, cond, List, ℤ, Some, None, Ok, Err, Option, Result, ◌==◌, slice_index_or}
 use Rattle.std.specs.List.{position_from}
-use Rattle.code.specs.declared.name.Name.{Name}
-use Rattle.code.specs.declared.name.Name.TheVariants.{Bitl}
-use Rattle.code.specs.declared.format.Format.{Format}
-use Rattle.code.specs.declared.format.Format.TheVariants.{A1, A2, A3, A4, A5, L, B}
-use Rattle.code.specs.Names.{rank}
+use Rattle.isa.specs.declared.name.Name.{Name}
+use Rattle.isa.specs.declared.name.Name.TheVariants.{Bitl}
+use Rattle.isa.specs.declared.format.Format.{Format}
+use Rattle.isa.specs.declared.format.Format.TheVariants.{A1, A2, A3, A4, A5, L, B}
+use Rattle.isa.specs.Names.{rank}
 use Rattle.word.specs.Fields.{unsigned_in, signed_in}
 use Rattle.book.specs.declared.tables.Tables.{Tables}
-use Rattle.book.specs.declared.unput.Unput.{Unput}
-use Rattle.book.specs.declared.unput.Unput.TheVariants.{Unavailable, Unfit}
+use Rattle.book.specs.declared.unput.EncodeError.{EncodeError}
+use Rattle.book.specs.declared.unput.EncodeError.TheVariants.{Unavailable, Unfit}
 use Rattle.book.specs.Rows.{is_name}
 use Rattle.book.specs.Patterns.{place_of}
 use Rattle.book.specs.Wholes.{word_of, branches}
 use Rattle.book.specs.Add.{need}
 
 -- the number of each refusal
-abbrev pub unput_number : Unput → ℕ
+abbrev pub unput_number : EncodeError → ℕ
 unput_number Unavailable = 21
 unput_number Unfit = 22
 
-abbrev pub answered : Result ℕ Unput → Result ℕ ℕ
+abbrev pub answered : Result ℕ EncodeError → Result ℕ ℕ
 answered (Ok w) = Ok w
 answered (Err e) = Err (unput_number e)
 

@@ -1,7 +1,7 @@
 use Rattle.std.specs.Prelude.{ℕ, Bool, false, ◌||◌, List, is_some, Some, None, Option, ◌==◌, slice_index_or}
 use Rattle.std.specs.List.{list_any}
-use Rattle.code.specs.declared.name.Name.{Name}
-use Rattle.code.specs.Names.{rank}
+use Rattle.isa.specs.declared.name.Name.{Name}
+use Rattle.isa.specs.Names.{rank}
 
 abbrev pub is_name : Name → Option Name → Bool
 is_name n None = false

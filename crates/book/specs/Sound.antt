@@ -1,6 +1,6 @@
 use Rattle.std.specs.Prelude.{ℕ, ◌+◌, ◌^◌, Bool, true, not, ◌&&◌, ◌||◌, List, [], ◌∷◌, Some, None, Option, ◌==◌, nat_le, nat_lt}
-use Rattle.code.specs.declared.name.Name.{Name}
-use Rattle.code.specs.Names.{rank}
+use Rattle.isa.specs.declared.name.Name.{Name}
+use Rattle.isa.specs.Names.{rank}
 use Rattle.book.specs.declared.tables.Tables.{Tables}
 use Rattle.book.specs.Rows.{has_name}
 use Rattle.book.specs.Patterns.{length_at, clashes}

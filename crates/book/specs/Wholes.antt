@@ -1,7 +1,7 @@
 use Rattle.std.specs.Prelude.{ℕ, Bool, cond, ◌&&◌, List, [], ◌∷◌, ℤ, pos, Some, None, Option, ◌==◌, nat_le}
-use Rattle.code.specs.declared.name.Name.{Name}
-use Rattle.code.specs.declared.name.Name.TheVariants.{Bz, Bof, Mbs, Cpbs, Trbs, Scbs, Mhs, Rk, Hrk, Sfn, Sim, Sfm}
-use Rattle.code.specs.Names.{rank}
+use Rattle.isa.specs.declared.name.Name.{Name}
+use Rattle.isa.specs.declared.name.Name.TheVariants.{Bz, Bof, Mbs, Cpbs, Trbs, Scbs, Mhs, Rk, Hrk, Sfn, Sim, Sfm}
+use Rattle.isa.specs.Names.{rank}
 use Rattle.word.specs.Fields.{as_signed}
 
 -- the words that are one instruction each, in every book

@@ -8,7 +8,7 @@ use crate::patterns::{clash, pattern, pattern_length, pattern_place};
 use crate::refused::Fault;
 use crate::rows::enter;
 use crate::tables::Tables;
-use code::{Format, Letter};
+use isa::{Format, Letter};
 use text::decimal;
 
 // The L numbers under which the whole words and BITL lie.

@@ -19,9 +19,9 @@ pub struct Book {
 
 impl Book {
     // From here on a word is looked up, in 384 KiB, and not read anew. Nothing else changes; where there is no memory for it, not even that.
-    pub fn tabulate(&mut self, heap: Global)
+    pub fn tabulate(&mut self, alloc: Global)
         ensures { self.new.tables ≡ self.old.tables }
     {
-        self.readings = Readings::of(&self.tables, heap).ok();
+        self.readings = Readings::of(&self.tables, alloc).ok();
     }
 }

@@ -17,4 +17,4 @@ mod whole;
 pub use book::Book;
 pub use refused::{Fault, Refused};
 pub use tables::Tables;
-pub use unput::Unput;
+pub use unput::EncodeError;

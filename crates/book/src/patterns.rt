@@ -1,7 +1,7 @@
 ghost use Rattle.std.specs.Prelude.{◌≡◌, ◌<◌, ◌≤◌, IfSome};
 ghost use Rattle.book.specs.Patterns.{place_of, length_at, pattern_of, begins, meets, clashes, every};
 
-use code::Format;
+use isa::Format;
 
 // The place of an A format's pattern among the five. Below, a pattern goes by its place and not by its format: `clash` goes through the
 // five places of a book, and would have to turn each into a format first.

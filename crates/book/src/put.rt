@@ -6,9 +6,9 @@ ghost use Rattle.book.specs.Laws.{Reads};
 use crate::book::Book;
 use crate::patterns::pattern_place;
 use crate::rows::place_of;
-use crate::unput::Unput;
+use crate::unput::EncodeError;
 use crate::whole::{is_branch, word_of_name};
-use code::{Format, Name};
+use isa::{Format, Name};
 use word::{join, signed_field, unsigned_field};
 
 fn number_of(table: &[Option<Name>], name: Name) -> Option<u16>
@@ -58,13 +58,13 @@ fn lay_a(format: Format, number: u16, pattern: u16, m: u16, d: u16) -> u16
 }
 
 // A field below the number, with no M.
-fn lay_below(number: u16, count: u16, m: i32, field: Option<u16>) -> Result<u16, Unput>
+fn lay_below(number: u16, count: u16, m: i32, field: Option<u16>) -> Result<u16, EncodeError>
     requires { (count < 16) × ((number * 2 ^ count + 2 ^ count ≤ 65536) × IfSome field (λ x. x < 2 ^ count)) }
     ensures { answered result ≡ below (number * 2 ^ count) m field }
 {
     match field {
         Some(field) if m == 0 => Ok(join(number, count, field)),
-        _ => Err(Unput::Unfit),
+        _ => Err(EncodeError::Unfit),
     }
 }
 
@@ -77,37 +77,37 @@ impl Book {
         self.tables.patterns[place]
     }
 
-    fn put_a(&self, name: Name, format: Format, m: i32, d: i32) -> Result<u16, Unput>
+    fn put_a(&self, name: Name, format: Format, m: i32, d: i32) -> Result<u16, EncodeError>
         ensures { answered result ≡ Rattle.book.specs.Put.put_a self.now.tables name format m d }
     {
-        let number = number_of(&self.tables.a, name).ok_or(Unput::Unavailable)?;
-        let pattern = self.pattern_of(format).ok_or(Unput::Unavailable)?;
-        let m = unsigned_field(m, m_values(format)).ok_or(Unput::Unfit)?;
-        let d = unsigned_field(d, d_values(format)).ok_or(Unput::Unfit)?;
+        let number = number_of(&self.tables.a, name).ok_or(EncodeError::Unavailable)?;
+        let pattern = self.pattern_of(format).ok_or(EncodeError::Unavailable)?;
+        let m = unsigned_field(m, m_values(format)).ok_or(EncodeError::Unfit)?;
+        let d = unsigned_field(d, d_values(format)).ok_or(EncodeError::Unfit)?;
         Ok(lay_a(format, number, u16::from(pattern), m, d))
     }
 
-    fn put_b(&self, name: Name, m: i32, d: i32) -> Result<u16, Unput>
+    fn put_b(&self, name: Name, m: i32, d: i32) -> Result<u16, EncodeError>
         ensures { answered result ≡ Rattle.book.specs.Put.put_b self.now.tables name m d }
     {
-        let number = number_of(&self.tables.b, name).ok_or(Unput::Unavailable)?;
+        let number = number_of(&self.tables.b, name).ok_or(EncodeError::Unavailable)?;
         lay_below(number, 10, m, signed_field(d, 512))
     }
 
-    fn put_l(&self, name: Name, m: i32, d: i32) -> Result<u16, Unput>
+    fn put_l(&self, name: Name, m: i32, d: i32) -> Result<u16, EncodeError>
         ensures { answered result ≡ Rattle.book.specs.Put.put_l (word_of name) self.now.tables name m d }
     {
         if let Some(word) = word_of_name(name) {
             return if m == 0 && d == 0 {
                 Ok(word)
             } else {
-                Err(Unput::Unfit)
+                Err(EncodeError::Unfit)
             };
         }
         if let Name::Bitl = name {
             return lay_below(22, 8, m, unsigned_field(d, 256));
         }
-        let number = number_of(&self.tables.l, name).ok_or(Unput::Unavailable)?;
+        let number = number_of(&self.tables.l, name).ok_or(EncodeError::Unavailable)?;
         let field = if is_branch(name) {
             signed_field(d, 128)
         } else {
@@ -116,7 +116,7 @@ impl Book {
         lay_below(number, 8, m, field)
     }
 
-    fn put(&self, name: Name, format: Format, m: i32, d: i32) -> Result<u16, Unput>
+    fn put(&self, name: Name, format: Format, m: i32, d: i32) -> Result<u16, EncodeError>
         ensures { answered result ≡ made_of self.now.tables name format m d }
     {
         match format {
@@ -129,7 +129,7 @@ impl Book {
     }
 
     // The word that this book reads as the name, the format, M and D.
-    pub fn put_together(&self, name: Name, format: Format, m: i32, d: i32) -> Result<u16, Unput>
+    pub fn put_together(&self, name: Name, format: Format, m: i32, d: i32) -> Result<u16, EncodeError>
         ensures is { answered result ≡ put self.now.tables name format m d }
         ensures reads { Reads self.now.tables name format m d result }
     {

@@ -1,12 +1,12 @@
 ghost use Rattle.std.specs.Prelude.{◌≡◌, ◌/◌, ◌%◌, ◌<◌};
 ghost use Rattle.book.specs.Readings.{fits, pick, m_of, d_of, in_l, in_a, reading};
 ghost use Rattle.book.specs.Laws.{Laid, Sole, Backs};
-ghost use Rattle.code.specs.declared.reading.Reading.TheVariants.{Defined};
+ghost use Rattle.isa.specs.declared.reading.Reading.TheVariants.{Defined};
 
 use crate::book::Book;
 use crate::tables::Tables;
 use crate::whole::{is_branch, whole_word};
-use code::{Format, Name, Reading};
+use isa::{Format, Name, Reading};
 use word::{low, middle, signed};
 
 #[inline(always)]

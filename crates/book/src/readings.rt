@@ -1,10 +1,10 @@
 ghost use Rattle.book.specs.Readings.{reading, readings_from};
-ghost use Rattle.code.specs.declared.reading.Reading.TheVariants.{Undefined};
+ghost use Rattle.isa.specs.declared.reading.Reading.TheVariants.{Undefined};
 ghost use Rattle.std.specs.Prelude.{◌≡◌, IfOk, length, slice_index_or, vec_len};
 
 use crate::reading::read_word;
 use crate::tables::Tables;
-use code::Reading;
+use isa::Reading;
 use std::alloc::{AllocError, Global};
 
 // The reading of each word, so that a step looks it up.
@@ -27,10 +27,10 @@ fn fill(readings: &mut [Reading], tables: &Tables)
 }
 
 impl Readings {
-    pub(crate) fn of(tables: &Tables, heap: Global) -> Result<Readings, AllocError>
+    pub(crate) fn of(tables: &Tables, alloc: Global) -> Result<Readings, AllocError>
         ensures { IfOk result (λ readings. readings.held.items ≡ readings_from tables.now 0 65536) }
     {
-        let mut held = vec![in heap; Reading::Undefined; 65536]?;
+        let mut held = vec![in alloc; Reading::Undefined; 65536]?;
         fill(&mut held, tables);
         Ok(Readings { held })
     }

@@ -2,7 +2,7 @@ ghost use Rattle.std.specs.Prelude.{◌≡◌};
 ghost use Rattle.book.specs.Faults.{fault_number, unended_at};
 ghost use Rattle.book.specs.declared.refused.Fault.TheVariants.{Name};
 
-use code::UnknownFormat;
+use isa::UnknownFormat;
 use text::Unended;
 use thiserror::Error;
 

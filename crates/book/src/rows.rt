@@ -3,7 +3,7 @@ ghost use Rattle.book.specs.Rows.{is_name, has_name, taken};
 ghost use Rattle.book.specs.declared.refused.Fault.TheVariants.{Repeated};
 
 use crate::refused::Fault;
-use code::Name;
+use isa::Name;
 
 fn is_entry(entry: &Option<Name>, name: Name) -> bool
     ensures { result ≡ is_name name entry.now }

@@ -1,4 +1,4 @@
-use code::Name;
+use isa::Name;
 
 // The names of each letter by their numbers, and the value of the pattern of each of A1 to A5.
 #[derive(Clone, Copy, Debug, PartialEq, Eq)]

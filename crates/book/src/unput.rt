@@ -5,14 +5,14 @@ use thiserror::Error;
 
 // Why a word cannot be put together: the book has no such instruction, or M or D does not fit.
 #[derive(Clone, Copy, PartialEq, Eq, Debug, Error)]
-pub enum Unput {
+pub enum EncodeError {
     #[error("refused with 21: the code book has no such instruction")]
     Unavailable = 21,
     #[error("refused with 22: M or D does not fit")]
     Unfit = 22,
 }
 
-impl Unput {
+impl EncodeError {
     pub fn number(self) -> u8
         ensures { result ≡ unput_number self }
     {

@@ -1,7 +1,7 @@
 ghost use Rattle.std.specs.Prelude.{◌≡◌};
 ghost use Rattle.book.specs.Wholes.{whole_of, word_of, branches};
 
-use code::Name;
+use isa::Name;
 
 // The instruction that a whole word is in every book. The same list stands in `word_of_name` by names: a match each way is read at a
 // glance, and a table would have to be searched in one of them.

@@ -1,5 +1,5 @@
 use access::{Grant, Kind};
-use inputs::{full, half, registers};
+use cli::{full, half, registers};
 use session::{Deed, Request};
 use std::alloc::{AllocError, Global};
 use text::hex_byte;
@@ -38,15 +38,15 @@ fn digits(pair: &[u8]) -> Option<u8> {
 }
 
 // Bytes of two hexadecimal digits each, or a hyphen where there is none.
-fn bytes(heap: Global, word: &[u8]) -> Result<Option<Vec<u8>>, AllocError> {
+fn bytes(alloc: Global, word: &[u8]) -> Result<Option<Vec<u8>>, AllocError> {
     match word {
-        b"-" => Ok(Some(Vec::new(heap))),
-        _ => pairs(heap, word),
+        b"-" => Ok(Some(Vec::new(alloc))),
+        _ => pairs(alloc, word),
     }
 }
 
-fn pairs(heap: Global, word: &[u8]) -> Result<Option<Vec<u8>>, AllocError> {
-    let mut bytes = Vec::new(heap);
+fn pairs(alloc: Global, word: &[u8]) -> Result<Option<Vec<u8>>, AllocError> {
+    let mut bytes = Vec::new(alloc);
     for pair in word.chunks(2) {
         let Some(byte) = digits(pair) else {
             return Ok(None);
@@ -56,8 +56,8 @@ fn pairs(heap: Global, word: &[u8]) -> Result<Option<Vec<u8>>, AllocError> {
     Ok(Some(bytes))
 }
 
-fn load(heap: Global, address: &[u8], word: &[u8]) -> Result<Option<Deed>, AllocError> {
-    let bytes = bytes(heap, word)?;
+fn load(alloc: Global, address: &[u8], word: &[u8]) -> Result<Option<Deed>, AllocError> {
+    let bytes = bytes(alloc, word)?;
     Ok(
         half(address)
             .zip(bytes)
@@ -66,11 +66,11 @@ fn load(heap: Global, address: &[u8], word: &[u8]) -> Result<Option<Deed>, Alloc
 }
 
 // What the words after the bay ask, by the first word of the line.
-fn deed(heap: Global, call: &[u8], words: &[&[u8]]) -> Result<Option<Deed>, AllocError> {
+fn deed(alloc: Global, call: &[u8], words: &[&[u8]]) -> Result<Option<Deed>, AllocError> {
     Ok(match (call, words) {
         (b"open", []) => Some(Deed::Open),
         (b"grant", [word, first, last]) => grant(word, first, last),
-        (b"load", [address, bytes]) => load(heap, address, bytes)?,
+        (b"load", [address, bytes]) => load(alloc, address, bytes)?,
         (b"set", values) => registers(values).map(Deed::Set),
         (b"seal", []) => Some(Deed::Seal),
         (b"turn", [budget]) => half(budget).map(Deed::Turn),
@@ -82,15 +82,15 @@ fn deed(heap: Global, call: &[u8], words: &[&[u8]]) -> Result<Option<Deed>, Allo
 }
 
 // The call of a line, if it is one.
-pub fn read_call(heap: Global, line: &[u8]) -> Result<Option<Request>, AllocError> {
+pub fn read_call(alloc: Global, line: &[u8]) -> Result<Option<Request>, AllocError> {
     let words: Vec<&[u8]> = line
         .split(|byte| *byte == b' ')
         .filter(|word| !word.is_empty())
-        .collect(heap)?;
+        .collect(alloc)?;
     let [call, number, words @ ..] = words.as_slice() else {
         return Ok(None);
     };
-    let deed = deed(heap, call, words)?;
+    let deed = deed(alloc, call, words)?;
     Ok(
         bay(number)
             .zip(deed)

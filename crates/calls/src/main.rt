@@ -7,7 +7,7 @@ mod script;
 mod table;
 mod work;
 
-use inputs::ended;
+use cli::ended;
 use std::process::ExitCode;
 use work::make_calls;
 

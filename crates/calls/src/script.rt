@@ -1,5 +1,5 @@
 use crate::call::read_call;
-use inputs::Failure;
+use cli::Failure;
 use session::Request;
 use std::alloc::{AllocError, Global};
 use text::{Line, Lines};
@@ -12,21 +12,21 @@ fn is_silent(line: &[u8]) -> bool {
     }
 }
 
-fn take_line(heap: Global, requests: &mut Vec<Request>, line: Line) -> Result<(), Failure> {
+fn take_line(alloc: Global, requests: &mut Vec<Request>, line: Line) -> Result<(), Failure> {
     if is_silent(line.text) {
         return Ok(());
     }
-    let request = read_call(heap, line.text)?.ok_or(Failure::NoCall { line: line.number })?;
+    let request = read_call(alloc, line.text)?.ok_or(Failure::NoCall { line: line.number })?;
     requests.push(request).map_err(AllocError::from)?;
     Ok(())
 }
 
 // The calls of a script, each a line of it.
-pub fn read_script(heap: Global, text: &[u8]) -> Result<Vec<Request>, Failure> {
-    let mut requests = Vec::new(heap);
+pub fn read_script(alloc: Global, text: &[u8]) -> Result<Vec<Request>, Failure> {
+    let mut requests = Vec::new(alloc);
     let mut lines = Lines::new(text);
     'lines: while let Some(line) = lines.next_line()? {
-        take_line(heap, &mut requests, line)?;
+        take_line(alloc, &mut requests, line)?;
     }
     Ok(requests)
 }

@@ -1,25 +1,25 @@
-use stores::{Unmapped, check_table};
+use stores::{TableError, check_table};
 use text::{Lines, decimal};
 
 // A page number, on the next line.
-fn next_page(lines: &mut Lines) -> Result<u8, Unmapped> {
+fn next_page(lines: &mut Lines) -> Result<u8, TableError> {
     let Ok(Some(line)) = lines.next_line() else {
-        return Err(Unmapped::Page);
+        return Err(TableError::Page);
     };
     decimal(line.text, 0, 63)
         .map(|page| page as u8)
-        .ok_or(Unmapped::Page)
+        .ok_or(TableError::Page)
 }
 
 // A table of 64 page numbers, one a line.
-pub fn read_table(text: &[u8]) -> Result<[u8; 64], Unmapped> {
+pub fn read_table(text: &[u8]) -> Result<[u8; 64], TableError> {
     let mut table = [0u8; 64];
     let mut lines = Lines::new(text);
     for page in table.iter_mut() {
         *page = next_page(&mut lines)?;
     }
     if !lines.rest.is_empty() {
-        return Err(Unmapped::Page);
+        return Err(TableError::Page);
     }
     Ok(table)
 }

@@ -2,7 +2,7 @@ use crate::answer::print_reply;
 use crate::script::read_script;
 use crate::table::read_table;
 use book::Book;
-use inputs::{Failure, read_file, read_input, words, zeroed};
+use cli::{Failure, read_file, read_input, words, zeroed};
 use session::{Reply, Request, drive, drive_mapped};
 use store::{Store, check_size};
 use stores::{Image, check_table};

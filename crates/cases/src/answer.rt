@@ -1,7 +1,7 @@
 use crate::case::{Case, Run};
 use crate::changes::Changes;
-use book::{Book, Unput};
-use code::{Format, Name};
+use book::{Book, EncodeError};
+use isa::{Format, Name};
 use std::{io, str};
 use turns::turn;
 
@@ -9,12 +9,12 @@ fn answer_run(rt: &HostRuntime, book: &Book, run: Run) -> io::Result<()> {
     let Run {
         label,
         mut registers,
-        bay,
+        rights,
         budget,
         before,
         mut store,
     } = run;
-    let turned = turn(book, &mut registers, &mut store, &bay, budget);
+    let turned = turn(book, &mut registers, &mut store, &rights, budget);
     let label = str::from_utf8(label).unwrap_or("?");
     let steps = turned.steps;
     let changes = Changes {
@@ -43,7 +43,7 @@ fn answer_reading(rt: &HostRuntime, book: &Book, word: u16) -> io::Result<()> {
     println!(rt; "reading {reading}")
 }
 
-fn answer_unput(rt: &HostRuntime, unput: Unput) -> io::Result<()> {
+fn answer_unput(rt: &HostRuntime, unput: EncodeError) -> io::Result<()> {
     let number = unput.number();
     println!(rt; "put refused {number}")
 }
@@ -69,7 +69,7 @@ impl<'a> Case<'a> {
             Case::Book(text) => answer_book(rt, &text),
             Case::Reading(word) => answer_reading(rt, book, word),
             Case::Put(name, format, m, d) => answer_put(rt, book, name, format, m, d),
-            Case::Unknown => answer_unput(rt, Unput::Unavailable),
+            Case::Unknown => answer_unput(rt, EncodeError::Unavailable),
         }
     }
 }

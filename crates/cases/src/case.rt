@@ -1,9 +1,9 @@
 use crate::hex::{hex_bytes, hex_half};
 use crate::image::put_parts;
 use crate::unread::Unread;
-use crate::values::{bay, half, registers, signed};
-use access::Bay;
-use code::{Format, Name};
+use crate::values::{half, registers, rights, signed};
+use access::Rights;
+use isa::{Format, Name};
 use machine::Registers;
 use std::alloc::Global;
 use store::Owned;
@@ -13,7 +13,7 @@ use store::Owned;
 pub struct Run<'a> {
     pub label: &'a [u8],
     pub registers: Registers,
-    pub bay: Bay,
+    pub rights: Rights,
     pub budget: u16,
     pub before: Vec<u8>,
     pub store: Owned,
@@ -40,7 +40,7 @@ fn read_run<'a>(alloc: Global, words: &[&'a [u8]]) -> Result<Run<'a>, Unread> {
     Ok(Run {
         label,
         registers: registers(values)?,
-        bay: bay(grants)?,
+        rights: rights(grants)?,
         budget: half(budget)?,
         before,
         store,

@@ -10,7 +10,7 @@ mod unread;
 mod values;
 mod work;
 
-use inputs::ended;
+use cli::ended;
 use std::process::ExitCode;
 use work::answer_all;
 

@@ -1,7 +1,7 @@
 ghost use Rattle.std.specs.Prelude.{◌≡◌};
 ghost use Rattle.cases.specs.declared.unread.Unread.TheVariants.{OutOfMemory};
 
-use inputs::Failure;
+use cli::Failure;
 use std::alloc::AllocError;
 
 // Why a line gives no case to answer.

@@ -1,7 +1,7 @@
 ghost use Rattle.std.specs.Prelude.{◌≤◌, IfOk};
 
 use crate::unread::Unread;
-use access::{Bay, Grant, Kind};
+use access::{Rights, Grant, Kind};
 use machine::Registers;
 use text::decimal;
 
@@ -12,7 +12,7 @@ fn number(digits: &[u8], high: u32) -> Result<u32, Unread>
 }
 
 pub fn half(word: &[u8]) -> Result<u16, Unread> {
-    inputs::half(word).ok_or(Unread::NoCase)
+    cli::half(word).ok_or(Unread::NoCase)
 }
 
 // Not a listing's `integer`, whose ends are a halfword's: the least number here has no positive one to be taken from.
@@ -24,7 +24,7 @@ pub fn signed(word: &[u8]) -> Result<i32, Unread> {
 }
 
 pub fn registers(words: &[&[u8]]) -> Result<Registers, Unread> {
-    inputs::registers(words).ok_or(Unread::NoCase)
+    cli::registers(words).ok_or(Unread::NoCase)
 }
 
 fn kind(word: &[u8]) -> Result<Kind, Unread> {
@@ -49,7 +49,7 @@ fn grant(word: &[u8]) -> Result<Grant, Unread> {
 }
 
 // Six grants at most, parted by commas, or a hyphen where there is none.
-pub fn bay(word: &[u8]) -> Result<Bay, Unread> {
+pub fn rights(word: &[u8]) -> Result<Rights, Unread> {
     let mut grants = [None; 6];
     let mut places = grants.iter_mut();
     match word {
@@ -60,5 +60,5 @@ pub fn bay(word: &[u8]) -> Result<Bay, Unread> {
             }
         }
     }
-    Ok(Bay { grants })
+    Ok(Rights::new(grants))
 }

@@ -1,6 +1,6 @@
 use crate::case::Case;
 use book::Book;
-use inputs::{Failure, read_book, read_input, words};
+use cli::{Failure, read_book, read_input, words};
 use text::{Line, Lines};
 
 // Blank lines and comments say nothing.

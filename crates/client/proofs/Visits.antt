@@ -1,6 +1,6 @@
 -- What a visit's calls are answered.
 use Rattle.std.proofs.Common.{◌≡◌, ℕ, Bool, true, false, cond, nat_le, List, length, Some, None, ap, refl, ◌∙◌}
-use Rattle.access.specs.declared.bay.Grant.{Grant}
+use Rattle.access.specs.declared.rights.Grant.{Grant}
 use Rattle.bays.specs.Bays.{bay_at, put_bay}
 use Rattle.bays.specs.declared.refusal.Refusal.TheVariants.{Reversed}
 use Rattle.bays.specs.declared.stage.Stage.TheVariants as stage

@@ -1,6 +1,6 @@
 -- What a visit to a new hall is answered.
 use Rattle.std.specs.Prelude.{ℕ, cond, nat_le}
-use Rattle.access.specs.declared.bay.Grant.{Grant}
+use Rattle.access.specs.declared.rights.Grant.{Grant}
 use Rattle.bays.specs.declared.stage.Stage.TheVariants.{Preparing, Sealed}
 use Rattle.history.specs.Calls.{Answer, call, grant, open_bay, own, refused, seal, shared, turn}
 use Rattle.history.specs.Hall.{Hall, Told, apply}

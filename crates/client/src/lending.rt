@@ -12,7 +12,7 @@ use stores::{Image, Plain};
 
 // The memory is then what the hall left.
 pub fn drive_memory(
-    heap: Global,
+    alloc: Global,
     memory: &mut [u8],
     book: Book,
     requests: &[Request],
@@ -22,12 +22,12 @@ pub fn drive_memory(
     ensures memory { OnOk result (memory.new ≡ (driven requests.now (new book memory.old)).bytes) }
 {
     let mut store = Plain::new(memory);
-    drive_lent(heap, &mut store, book, requests)
+    drive_lent(alloc, &mut store, book, requests)
 }
 
 // The working memory then has the copied pages, as the hall left them: with the image's other pages they are what it left.
 pub fn drive_image(
-    heap: Global,
+    alloc: Global,
     image: &[u8],
     work: &mut [u8],
     book: Book,
@@ -38,13 +38,13 @@ pub fn drive_image(
     ensures work { IfOk result (λ r. imaged r.0 image.now work.new ≡ (driven requests.now (new book image.now)).bytes) }
 {
     let mut store = Image::new(image, work);
-    let replies = drive_lent(heap, &mut store, book, requests)?;
+    let replies = drive_lent(alloc, &mut store, book, requests)?;
     Ok((store.copied(), replies))
 }
 
 // By the table, the memory is then what the hall left.
 pub fn drive_pages(
-    heap: Global,
+    alloc: Global,
     memory: &mut [u8],
     table: [u8; 64],
     book: Book,
@@ -55,5 +55,5 @@ pub fn drive_pages(
     ensures memory { OnOk result (mapped table memory.new ≡ (driven requests.now (new book (mapped table memory.old))).bytes) }
 {
     let mut store = Plain::new(memory);
-    drive_mapped(heap, &mut store, table, book, requests)
+    drive_mapped(alloc, &mut store, table, book, requests)
 }

@@ -6,14 +6,14 @@ use session::{Deed, Reply, Request, drive};
 use std::alloc::Global;
 use std::process::Abort;
 use std::test::Fail;
-use store::{Store, Unmade, check_size};
-use stores::{Image, Mapped, Plain, Unmapped, check_table};
+use store::{Store, SizeError, check_size};
+use stores::{Image, Mapped, Plain, TableError, check_table};
 
 const FIRST: u16 = 1020;
 
 // Every byte tells its address.
-fn image(heap: Global) -> Result<Vec<u8>, Fail> {
-    let mut image = vec![in heap; 0u8; 65536]?;
+fn image(alloc: Global) -> Result<Vec<u8>, Fail> {
+    let mut image = vec![in alloc; 0u8; 65536]?;
     for (at, byte) in image.iter_mut().enumerate() {
         *byte = (at % 251) as u8;
     }
@@ -21,8 +21,8 @@ fn image(heap: Global) -> Result<Vec<u8>, Fail> {
 }
 
 // The same bytes, the last page first.
-fn backwards(heap: Global) -> Result<Vec<u8>, Fail> {
-    let mut image = vec![in heap; 0u8; 65536]?;
+fn backwards(alloc: Global) -> Result<Vec<u8>, Fail> {
+    let mut image = vec![in alloc; 0u8; 65536]?;
     for (at, byte) in image.iter_mut().enumerate() {
         *byte = (((63 - at / 1024) * 1024 + at % 1024) % 251) as u8;
     }
@@ -68,15 +68,15 @@ fn over_image<'a>(rt: &impl Abort, image: &'a [u8], work: &'a mut [u8]) -> Image
 }
 
 // Writes the last bytes of a page and the first of the next one, and copies them with their neighbours.
-fn history(heap: Global) -> Result<Vec<Request>, Fail> {
+fn history(alloc: Global) -> Result<Vec<Request>, Fail> {
     let bay = 1;
     let grant = Grant {
         kind: Kind::Write,
         first: 1000,
         last: 3000,
     };
-    let bytes = [1u8, 2, 3, 4].to_vec(heap)?;
-    Ok(vec![in heap;
+    let bytes = [1u8, 2, 3, 4].to_vec(alloc)?;
+    Ok(vec![in alloc;
         Request {
             bay,
             deed: Deed::Open
@@ -96,12 +96,12 @@ fn history(heap: Global) -> Result<Vec<Request>, Fail> {
     ]?)
 }
 
-fn copied<S: Store + Drop>(heap: Global, store: S) -> Result<Vec<u8>, Fail> {
-    let requests = history(heap)?;
-    let (_store, replies) = drive(heap, store, Book::new(), &requests)?;
+fn copied<S: Store + Drop>(alloc: Global, store: S) -> Result<Vec<u8>, Fail> {
+    let requests = history(alloc)?;
+    let (_store, replies) = drive(alloc, store, Book::new(), &requests)?;
     match replies.last() {
-        Some(Reply::Copied(bytes)) => Ok(bytes.as_slice().to_vec(heap)?),
-        _ => Ok(Vec::new(heap)),
+        Some(Reply::Copied(bytes)) => Ok(bytes.as_slice().to_vec(alloc)?),
+        _ => Ok(Vec::new(alloc)),
     }
 }
 
@@ -173,13 +173,13 @@ fn what_a_lender_gets_back(rt: HostRuntime) -> Result<(), Fail> {
 
 fn pages_copied(
     rt: &impl Abort,
-    heap: Global,
+    alloc: Global,
     image: &[u8],
     work: &mut [u8],
     requests: &[Request],
 ) -> Result<[bool; 64], Fail> {
     match (check_size(image), check_size(work)) {
-        (Ok(()), Ok(())) => Ok(drive_image(heap, image, work, Book::new(), requests)?.0),
+        (Ok(()), Ok(())) => Ok(drive_image(alloc, image, work, Book::new(), requests)?.0),
         _ => panic!(rt; "a store's size"),
     }
 }
@@ -215,11 +215,11 @@ fn what_a_lender_of_pages_gets_back(rt: HostRuntime) -> Result<(), Fail> {
 #[test]
 fn a_check_refuses_what_is_no_store(rt: HostRuntime) -> Result<(), Fail> {
     let memory = vec![in rt.alloc(); 0u8; 65535]?;
-    assert_eq!(rt; check_size(&memory).map_err(Unmade::number), Err(8));
-    assert_eq!(rt; check_table(&[0; 64]).map_err(Unmapped::number), Err(9));
+    assert_eq!(rt; check_size(&memory).map_err(SizeError::number), Err(8));
+    assert_eq!(rt; check_table(&[0; 64]).map_err(TableError::number), Err(9));
     let mut table = identity();
     table[63] = 64;
-    assert_eq!(rt; check_table(&table).map_err(Unmapped::number), Err(9));
-    assert_eq!(rt; check_table(&reversal()).map_err(Unmapped::number), Ok(()));
+    assert_eq!(rt; check_table(&table).map_err(TableError::number), Err(9));
+    assert_eq!(rt; check_table(&reversal()).map_err(TableError::number), Ok(()));
     Ok(())
 }

@@ -30,14 +30,14 @@ const FOUR: Grant = Grant {
 };
 
 // Zero but for the bytes that it begins with.
-fn store_of(heap: Global, start: &[u8]) -> Result<Owned, AllocError> {
-    let mut store = Owned::new(vec![in heap; 0u8; 65536]?);
+fn store_of(alloc: Global, start: &[u8]) -> Result<Owned, AllocError> {
+    let mut store = Owned::new(vec![in alloc; 0u8; 65536]?);
     write_all(&mut store, 0, start);
     Ok(store)
 }
 
-fn new_hall(heap: Global) -> Result<Hall<Owned>, AllocError> {
-    Ok(Hall::new(store_of(heap, &[])?, Book::new()))
+fn new_hall(alloc: Global) -> Result<Hall<Owned>, AllocError> {
+    Ok(Hall::new(store_of(alloc, &[])?, Book::new()))
 }
 
 fn opened(rt: &impl Abort, hall: &mut Hall<Owned>, number: u8) -> Preparing {

@@ -4,7 +4,7 @@
 mod compare;
 mod work;
 
-use inputs::ended;
+use cli::ended;
 use std::process::ExitCode;
 use work::demonstrate;
 

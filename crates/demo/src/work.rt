@@ -1,6 +1,6 @@
 use crate::compare::{differing, float_differing, in_common};
 use book::Book;
-use inputs::{
+use cli::{
     Failure, Fault, assembled, halted, parse_job, read_book, read_file, read_records,
     refuse_partial, run_records, words,
 };
@@ -10,7 +10,7 @@ use store::Owned;
 
 // The results of a job on its records, which must all halt.
 fn results(
-    heap: Global,
+    alloc: Global,
     book: &Book,
     name: &str,
     job: &Job,
@@ -18,12 +18,12 @@ fn results(
     records: &[u8],
 ) -> Result<Vec<u8>, Failure> {
     let mut record = 0u64;
-    run_records(heap, book, job, store, records, |ran| {
+    run_records(alloc, book, job, store, records, |ran| {
         record = record.saturating_add(1);
         if halted(ran) {
             Ok(())
         } else {
-            Err(Failure::of_file(heap, name, Fault::Unhalted { record }))
+            Err(Failure::of_file(alloc, name, Fault::Unhalted { record }))
         }
     })
 }
@@ -62,7 +62,7 @@ pub fn demonstrate(rt: &HostRuntime) -> Result<(), Failure> {
 #[cfg(test)]
 mod tests {
     use super::*;
-    use inputs::zeroed;
+    use cli::zeroed;
     use job::read_job;
     use std::test::Fail;
 

@@ -7,7 +7,7 @@ use crate::hall::Hall;
 use crate::handle::{AtStage, Handle, Sealed};
 use crate::shown::Shown;
 use access::Access;
-use bays::{BayRecord, Refusal};
+use bays::{Bay, Refusal};
 use machine::Registers;
 use store::{Store, read_all, write_all};
 use turns::Turned;
@@ -25,7 +25,7 @@ impl<S: Store> Hall<S> {
         ensures after { self.new ≡ (apply (call handle.now.bay K.STAGE (own (load address bytes.now))) self.old).hall }
     {
         let record = self.entered(handle)?;
-        if !record.bay.reaches(Access::Write, address, bytes.len()) {
+        if !record.rights.reaches(Access::Write, address, bytes.len()) {
             return Err(Refusal::Ungranted);
         }
         write_all(&mut self.store, address, bytes);
@@ -44,7 +44,7 @@ impl<S: Store> Hall<S> {
         let record = self.entered(handle)?;
         self.table.put(
             handle.bay,
-            BayRecord {
+            Bay {
                 registers,
                 stop: None,
                 ..record
@@ -70,12 +70,12 @@ impl<S: Store> Hall<S> {
             &self.book,
             &mut registers,
             &mut self.store,
-            &record.bay,
+            &record.rights,
             budget,
         );
         self.table.put(
             handle.bay,
-            BayRecord {
+            Bay {
                 registers,
                 stop: turned.stop,
                 ..record
@@ -108,7 +108,7 @@ impl<S: Store> Hall<S> {
         ensures kept { OnErr result (buffer.new ≡ buffer.old) }
     {
         let record = self.entered(handle)?;
-        if !record.bay.reaches(Access::Read, address, buffer.len()) {
+        if !record.rights.reaches(Access::Read, address, buffer.len()) {
             return Err(Refusal::Ungranted);
         }
         read_all(&self.store, address, buffer);

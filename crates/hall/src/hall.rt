@@ -4,7 +4,7 @@ ghost use Rattle.history.specs.Laws.{AnyFooting, Confinement, Exchange, Isolatio
 ghost use Rattle.std.specs.Prelude.{◌≡◌};
 
 use crate::handle::{AtStage, Handle};
-use bays::{BayRecord, Refusal, Table};
+use bays::{Bay, Refusal, Table};
 use book::Book;
 use std::marker::Model;
 use store::Store;
@@ -52,7 +52,7 @@ impl<S: Store> Hall<S> {
     }
 
     // The bay that a handle names, if it is at the handle's stage.
-    pub(crate) fn entered<K: AtStage>(&self, handle: &Handle<K>) -> Result<BayRecord, Refusal>
+    pub(crate) fn entered<K: AtStage>(&self, handle: &Handle<K>) -> Result<Bay, Refusal>
         ensures { result ≡ Rattle.bays.specs.Bays.entered K.STAGE self.now.bays handle.now.bay }
     {
         self.table.entered(handle.bay, K::STAGE)

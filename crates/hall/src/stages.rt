@@ -6,8 +6,8 @@ ghost use Rattle.history.specs.Calls;
 
 use crate::hall::Hall;
 use crate::handle::{AtStage, Handle, InPreparation, Preparing, Sealed};
-use access::{Bay, Grant};
-use bays::{BayRecord, Refusal, Stage, first_vacant, wipe};
+use access::{Rights, Grant};
+use bays::{Bay, Refusal, Stage, first_vacant, wipe};
 use store::Store;
 
 // A refused call that has the handle itself gives it back: by a match, since a closure for `map_err` would take the handle from the call
@@ -33,9 +33,9 @@ impl<S: Store> Hall<S> {
         }
         self.table.put(
             number,
-            BayRecord {
+            Bay {
                 stage: Some(Stage::Preparing),
-                ..BayRecord::free()
+                ..Bay::free()
             },
         );
         Ok(Preparing::to(number))
@@ -50,7 +50,7 @@ impl<S: Store> Hall<S> {
         if grant.first > grant.last {
             return Err(Refusal::Reversed);
         }
-        let mut grants = record.bay.grants;
+        let mut grants = record.rights.grants;
         let place = first_vacant(&grants).ok_or(Refusal::Full)?;
         if self.table.clashes(grant) {
             return Err(Refusal::Clash);
@@ -58,8 +58,8 @@ impl<S: Store> Hall<S> {
         grants[place] = Some(grant);
         self.table.put(
             handle.bay,
-            BayRecord {
-                bay: Bay { grants },
+            Bay {
+                rights: Rights { grants },
                 ..record
             },
         );
@@ -79,7 +79,7 @@ impl<S: Store> Hall<S> {
             Ok(record) => {
                 self.table.put(
                     number,
-                    BayRecord {
+                    Bay {
                         stage: Some(Stage::Sealed),
                         ..record
                     },
@@ -100,8 +100,8 @@ impl<S: Store> Hall<S> {
         match self.entered(&handle) {
             Err(refusal) => Err(Refused { refusal, handle }),
             Ok(record) => {
-                wipe(&mut self.store, &record.bay);
-                self.table.put(number, BayRecord::free());
+                wipe(&mut self.store, &record.rights);
+                self.table.put(number, Bay::free());
                 handle.spend();
                 Ok(())
             }

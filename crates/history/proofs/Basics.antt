@@ -1,14 +1,14 @@
 -- Tests, lists and grants.
 use Rattle.std.proofs.Common.{◌≡◌, ℕ, zero, suc, ◌+◌, ◌%◌, ◌<◌, ◌≤◌, Bool, true, false, cond, not, ◌&&◌, ◌||◌, T, leb, ◌⊎◌, List, [], ◌∷◌, length, get_or, set, Some, None, Option, sym, refl, ap, ◌∙◌, subst, inl, inr, add-zero, add-suc, mod-eq_of_lt, suc-add, zero-add, arith, le→leb, ltb→lt, leb→le, length-set}
 use Rattle.std.proofs.lemmas.List.{get_or-set_other}
-use Rattle.access.specs.declared.bay.Grant.{Grant}
-use Rattle.bays.specs.declared.record.BayRecord.{BayRecord}
+use Rattle.access.specs.declared.rights.Grant.{Grant}
+use Rattle.bays.specs.declared.bay.Bay.{Bay}
 use Rattle.bays.specs.Bays.{bay_at, clash, free, wiped}
 use Rattle.bays.specs.Grants.{added, both_read, clashes, clashes_any, has, reads, room, vacant, writes}
 use Rattle.access.specs.Access.{allows, allows_all, covers, granted, permits, within}
-use Rattle.access.specs.declared.bay.Bay.{Bay}
-use Rattle.access.specs.declared.bay.Kind.{Kind}
-use Rattle.access.specs.declared.bay.Kind.TheVariants as kind
+use Rattle.access.specs.declared.rights.Rights.{Rights}
+use Rattle.access.specs.declared.rights.Kind.{Kind}
+use Rattle.access.specs.declared.rights.Kind.TheVariants as kind
 use Rattle.access.specs.declared.stop.Access.{Access}
 use Rattle.access.specs.declared.stop.Access.TheVariants.{Read, Write}
 use Rattle.store.specs.Bulk.{taken, written}
@@ -134,31 +134,31 @@ written_cong (v ∷ vs) bs cs x a n e =
 next_in : (x n : ℕ) → x + suc (suc n) ≤ 65536 → (x + 1) % 65536 ≡ x + 1
 next_in x n h = mod-eq_of_lt (omega arith)
 
-module _ (bay : Bay) where
-  pub written_frame : (vs bs : List ℕ) (x a : ℕ) → x + length vs ≤ 65536 → T (allows_all bay Write x (length vs)) → (T (allows bay Write a) → ⊥) → get_or (written bs x vs) a 0 ≡ get_or bs a 0
+module _ (rights : Rights) where
+  pub written_frame : (vs bs : List ℕ) (x a : ℕ) → x + length vs ≤ 65536 → T (allows_all rights Write x (length vs)) → (T (allows rights Write a) → ⊥) → get_or (written bs x vs) a 0 ≡ get_or bs a 0
   written_frame [] bs x a h t n = refl
   written_frame (v ∷ []) bs x a h t n =
-      get_or-set_other bs x a v 0 (λ e. n (subst (λ (y : ℕ). T (allows bay Write y)) (sym e) (and_left (allows bay Write x) true t)))
+      get_or-set_other bs x a v 0 (λ e. n (subst (λ (y : ℕ). T (allows rights Write y)) (sym e) (and_left (allows rights Write x) true t)))
   written_frame (v ∷ v' ∷ vs) bs x a h t n =
       ap (λ (y : ℕ). get_or (written (set bs x v) y (v' ∷ vs)) a 0) (next_in x (length vs) h)
-      ∙ written_frame (v' ∷ vs) (set bs x v) (x + 1) a (omega arith) (and_right (allows bay Write x) (allows_all bay Write (x + 1) (length (v' ∷ vs))) t) n
-      ∙ get_or-set_other bs x a v 0 (λ e. n (subst (λ (y : ℕ). T (allows bay Write y)) (sym e) (and_left (allows bay Write x) (allows_all bay Write (x + 1) (length (v' ∷ vs))) t)))
+      ∙ written_frame (v' ∷ vs) (set bs x v) (x + 1) a (omega arith) (and_right (allows rights Write x) (allows_all rights Write (x + 1) (length (v' ∷ vs))) t) n
+      ∙ get_or-set_other bs x a v 0 (λ e. n (subst (λ (y : ℕ). T (allows rights Write y)) (sym e) (and_left (allows rights Write x) (allows_all rights Write (x + 1) (length (v' ∷ vs))) t)))
 
   -- bytes taken from an address on, where each is the same
-  pub taken_same : (n x : ℕ) (bs cs : List ℕ) → x + n ≤ 65536 → T (allows_all bay Read x n) → ((a : ℕ) → T (allows bay Read a) → get_or bs a 0 ≡ get_or cs a 0) → taken bs x n ≡ taken cs x n
+  pub taken_same : (n x : ℕ) (bs cs : List ℕ) → x + n ≤ 65536 → T (allows_all rights Read x n) → ((a : ℕ) → T (allows rights Read a) → get_or bs a 0 ≡ get_or cs a 0) → taken bs x n ≡ taken cs x n
   taken_same zero x bs cs h t f = refl
-  taken_same (suc zero) x bs cs h t f = ap (λ (v : ℕ). v ∷ []) (f x (and_left (allows bay Read x) true t))
+  taken_same (suc zero) x bs cs h t f = ap (λ (v : ℕ). v ∷ []) (f x (and_left (allows rights Read x) true t))
   taken_same (suc (suc n)) x bs cs h t f =
       let e = next_in x n h in
-      let r : taken bs (x + 1) (suc n) ≡ taken cs (x + 1) (suc n) = taken_same (suc n) (x + 1) bs cs (omega arith) (and_right (allows bay Read x) (allows_all bay Read (x + 1) (suc n)) t) f in
-      let v : get_or bs x 0 ≡ get_or cs x 0 = f x (and_left (allows bay Read x) (allows_all bay Read (x + 1) (suc n)) t) in
+      let r : taken bs (x + 1) (suc n) ≡ taken cs (x + 1) (suc n) = taken_same (suc n) (x + 1) bs cs (omega arith) (and_right (allows rights Read x) (allows_all rights Read (x + 1) (suc n)) t) f in
+      let v : get_or bs x 0 ≡ get_or cs x 0 = f x (and_left (allows rights Read x) (allows_all rights Read (x + 1) (suc n)) t) in
       ap (λ (y : ℕ). get_or bs x 0 ∷ taken bs y (suc n)) e ∙ (λ i. v i ∷ r i) ∙ ap (λ (y : ℕ). get_or cs x 0 ∷ taken cs y (suc n)) (sym e)
 
-  pub within_in : (w : Access) (x n : ℕ) → T (within bay w x n) → x + n ≤ 65536
-  within_in w x n t = leb→le (x + n) 65536 (and_left (leb (x + n) 65536) (allows_all bay w x n) t)
+  pub within_in : (w : Access) (x n : ℕ) → T (within rights w x n) → x + n ≤ 65536
+  within_in w x n t = leb→le (x + n) 65536 (and_left (leb (x + n) 65536) (allows_all rights w x n) t)
 
-  pub within_all : (w : Access) (x n : ℕ) → T (within bay w x n) → T (allows_all bay w x n)
-  within_all w x n t = and_right (leb (x + n) 65536) (allows_all bay w x n) t
+  pub within_all : (w : Access) (x n : ℕ) → T (within rights w x n) → T (allows_all rights w x n)
+  within_all w x n t = and_right (leb (x + n) 65536) (allows_all rights w x n) t
 
 -- what closing leaves
 pub length_wiped : (gs : List (Option Grant)) (i : ℕ) (bs : List ℕ) → length (wiped gs i bs) ≡ length bs
@@ -235,13 +235,13 @@ clashes_any_in g (Some h ∷ hs) a c (inr t) =
       | inr u ↦ or_right (clashes g (Some h)) (clashes_any g hs) (clashes_any_in g hs a c (inr (t.0, u)))
     ]
 
-clash_get : (g : Grant) (l : List BayRecord) (k a : ℕ) → T (has g a) → InWay g (get_or l k free).bay.grants a → T (clash g l)
+clash_get : (g : Grant) (l : List Bay) (k a : ℕ) → T (has g a) → InWay g (get_or l k free).rights.grants a → T (clash g l)
 clash_get g [] k a c (inl t) = t
 clash_get g [] k a c (inr t) = t.1
-clash_get g (d ∷ l) zero a c t = or_left (clashes_any g d.bay.grants) (clash g l) (clashes_any_in g d.bay.grants a c t)
-clash_get g (d ∷ l) (suc k) a c t = or_right (clashes_any g d.bay.grants) (clash g l) (clash_get g l k a c t)
+clash_get g (d ∷ l) zero a c t = or_left (clashes_any g d.rights.grants) (clash g l) (clashes_any_in g d.rights.grants a c t)
+clash_get g (d ∷ l) (suc k) a c t = or_right (clashes_any g d.rights.grants) (clash g l) (clash_get g l k a c t)
 
-pub clash_in : (g : Grant) (l : List BayRecord) (k a : ℕ) → T (has g a) → InWay g (bay_at l k).bay.grants a → T (clash g l)
+pub clash_in : (g : Grant) (l : List Bay) (k a : ℕ) → T (has g a) → InWay g (bay_at l k).rights.grants a → T (clash g l)
 unfolding bay_at
 clash_in g l zero a c (inl t) = absurd t
 clash_in g l zero a c (inr t) = absurd t.1

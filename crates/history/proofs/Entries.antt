@@ -5,9 +5,9 @@ use lib.ListN.{get_or-map}
 use lib.Seq.{map-set}
 use Rattle.std.proofs.lemmas.List.{length-map}
 use Rattle.std.specs.List.{list_any}
-use Rattle.access.specs.declared.bay.Bay.{Bay}
-use Rattle.access.specs.declared.bay.Grant.{Grant}
-use Rattle.bays.specs.declared.record.BayRecord.{BayRecord}
+use Rattle.access.specs.declared.rights.Rights.{Rights}
+use Rattle.access.specs.declared.rights.Grant.{Grant}
+use Rattle.bays.specs.declared.bay.Bay.{Bay}
 use Rattle.bays.specs.declared.stage.Stage.{Stage}
 use Rattle.bays.specs.declared.stage.Stage.TheVariants.{Preparing}
 use Rattle.bays.specs.declared.refusal.Refusal.TheVariants.{NoSuchBay, OtherStage, Taken, Reversed, Full, Clash}
@@ -21,12 +21,12 @@ use Rattle.history.specs.Hall.{Program, changed, program_of, verdict, with_progr
 
 pub record Entry : Type 0 where
   pub stage : Option Stage
-  pub bay : Bay
+  pub rights : Rights
 
-abbrev pub entry : BayRecord → Entry
-entry b = record { stage = b.stage; bay = b.bay }
+abbrev pub entry : Bay → Entry
+entry b = record { stage = b.stage; rights = b.rights }
 
-abbrev pub entries : List BayRecord → List Entry
+abbrev pub entries : List Bay → List Entry
 entries l = map entry l
 
 abbrev entry_at : List Entry → ℕ → Entry
@@ -38,23 +38,23 @@ put_entry l zero d = l
 put_entry l (suc k) d = set l k d
 
 abbrev clash_entries : Grant → List Entry → Bool
-clash_entries g l = list_any (λ d. clashes_any g d.bay.grants) l
+clash_entries g l = list_any (λ d. clashes_any g d.rights.grants) l
 
-entry_of : (l : List BayRecord) (k : ℕ) → entry (bay_at l k) ≡ entry_at (entries l) k
+entry_of : (l : List Bay) (k : ℕ) → entry (bay_at l k) ≡ entry_at (entries l) k
 unfolding bay_at
 entry_of l zero = refl
 entry_of l (suc k) = sym (get_or-map entry l k free)
 
-put_entry_of : (l : List BayRecord) (k : ℕ) (b : BayRecord) → entries (put_bay l k b) ≡ put_entry (entries l) k (entry b)
+put_entry_of : (l : List Bay) (k : ℕ) (b : Bay) → entries (put_bay l k b) ≡ put_entry (entries l) k (entry b)
 unfolding put_bay
 put_entry_of l zero b = refl
 put_entry_of l (suc k) b = map-set entry l k b
 
-clash_entry : (g : Grant) (l : List BayRecord) → clash g l ≡ clash_entries g (entries l)
+clash_entry : (g : Grant) (l : List Bay) → clash g l ≡ clash_entries g (entries l)
 clash_entry g [] = refl
-clash_entry g (b ∷ l) = ap (λ (x : Bool). clashes_any g b.bay.grants || x) (clash_entry g l)
+clash_entry g (b ∷ l) = ap (λ (x : Bool). clashes_any g b.rights.grants || x) (clash_entry g l)
 
-module _ (l m : List BayRecord) (e : entries l ≡ entries m) where
+module _ (l m : List Bay) (e : entries l ≡ entries m) where
   pub same_entry : (k : ℕ) → entry (bay_at l k) ≡ entry (bay_at m k)
   same_entry k = entry_of l k ∙ ap (λ (x : List Entry). entry_at x k) e ∙ sym (entry_of m k)
 
@@ -64,33 +64,33 @@ module _ (l m : List BayRecord) (e : entries l ≡ entries m) where
   pub same_length : length l ≡ length m
   same_length = sym (length-map l entry) ∙ ap length e ∙ length-map m entry
 
-  pub same_put : (k : ℕ) (b c : BayRecord) → entry b ≡ entry c → entries (put_bay l k b) ≡ entries (put_bay m k c)
+  pub same_put : (k : ℕ) (b c : Bay) → entry b ≡ entry c → entries (put_bay l k b) ≡ entries (put_bay m k c)
   same_put k b c f = put_entry_of l k b ∙ (λ i. put_entry (e i) k (f i)) ∙ sym (put_entry_of m k c)
 
   pub same_verdict : (k : ℕ) (s : Stage) (o : Shared) → verdict k s o l ≡ verdict k s o m
   same_verdict k s open_bay = λ i. cond (leb 1 k && leb k 8) (cond (is_free (same_entry k i).stage) None (Some Taken)) (Some NoSuchBay)
   same_verdict k s (grant g) = λ i.
       cond (at_stage Preparing (same_entry k i).stage)
-      (cond (leb g.first g.last) (cond (room (same_entry k i).bay.grants) (cond (same_clash g i) (Some Clash) None) (Some Full)) (Some Reversed))
+      (cond (leb g.first g.last) (cond (room (same_entry k i).rights.grants) (cond (same_clash g i) (Some Clash) None) (Some Full)) (Some Reversed))
       (Some OtherStage)
   same_verdict k s seal = λ i. cond (at_stage Preparing (same_entry k i).stage) None (Some OtherStage)
   same_verdict k s close = λ i. cond (at_stage s (same_entry k i).stage) None (Some OtherStage)
 
 -- a program put into its bay
-pub changed_entries : (l : List BayRecord) (k : ℕ) (o : Option Program) → entries (changed o l k) ≡ entries l
+pub changed_entries : (l : List Bay) (k : ℕ) (o : Option Program) → entries (changed o l k) ≡ entries l
 changed_entries l k None = refl
 changed_entries l k (Some p) = same_put l l refl k (with_program (bay_at l k) p) (bay_at l k) refl ∙ ap entries (put_same l k)
 
-pub get_put : (x : BayRecord) (l : List BayRecord) (i j : ℕ) → ((j ≡ i) × (bay_at (put_bay l i x) j ≡ x)) ⊎ (bay_at (put_bay l i x) j ≡ bay_at l j)
+pub get_put : (x : Bay) (l : List Bay) (i j : ℕ) → ((j ≡ i) × (bay_at (put_bay l i x) j ≡ x)) ⊎ (bay_at (put_bay l i x) j ≡ bay_at l j)
 unfolding bay_at put_bay
 get_put x l zero j = inr refl
 get_put x l (suc i) zero = inr refl
 get_put x l (suc i) (suc j) = elim (get_set free x l i j) [ inl p ↦ inl (ap suc p.0, p.1) | inr e ↦ inr e ]
 
-pub get_put_other : (x : BayRecord) (l : List BayRecord) (i j : ℕ) → j ≢ i → bay_at (put_bay l i x) j ≡ bay_at l j
+pub get_put_other : (x : Bay) (l : List Bay) (i j : ℕ) → j ≢ i → bay_at (put_bay l i x) j ≡ bay_at l j
 get_put_other x l i j n = elim (get_put x l i j) [ inl p ↦ absurd (n p.0) | inr e ↦ e ]
 
-program_set : (b c : BayRecord) (l m : List BayRecord) (i j : ℕ) → length l ≡ length m → program_of b ≡ program_of c → program_of (get_or l j free) ≡ program_of (get_or m j free) → program_of (get_or (set l i b) j free) ≡ program_of (get_or (set m i c) j free)
+program_set : (b c : Bay) (l m : List Bay) (i j : ℕ) → length l ≡ length m → program_of b ≡ program_of c → program_of (get_or l j free) ≡ program_of (get_or m j free) → program_of (get_or (set l i b) j free) ≡ program_of (get_or (set m i c) j free)
 program_set b c [] [] i j n f e = e
 program_set b c [] (y ∷ m) i j n f e = absurd (omega arith)
 program_set b c (x ∷ l) [] i j n f e = absurd (omega arith)
@@ -99,17 +99,17 @@ program_set b c (x ∷ l) (y ∷ m) zero (suc j) n f e = e
 program_set b c (x ∷ l) (y ∷ m) (suc i) zero n f e = e
 program_set b c (x ∷ l) (y ∷ m) (suc i) (suc j) n f e = program_set b c l m i j (omega arith) f e
 
-pub program_put : (b c : BayRecord) (l m : List BayRecord) (i j : ℕ) → length l ≡ length m → program_of b ≡ program_of c → program_of (bay_at l j) ≡ program_of (bay_at m j) → program_of (bay_at (put_bay l i b) j) ≡ program_of (bay_at (put_bay m i c) j)
+pub program_put : (b c : Bay) (l m : List Bay) (i j : ℕ) → length l ≡ length m → program_of b ≡ program_of c → program_of (bay_at l j) ≡ program_of (bay_at m j) → program_of (bay_at (put_bay l i b) j) ≡ program_of (bay_at (put_bay m i c) j)
 unfolding bay_at put_bay
 program_put b c l m zero j n f e = e
 program_put b c l m (suc i) zero n f e = e
 program_put b c l m (suc i) (suc j) n f e = program_set b c l m i j n f e
 
-pub changed_other : (o : Option Program) (l : List BayRecord) (k j : ℕ) → j ≢ k → bay_at (changed o l k) j ≡ bay_at l j
+pub changed_other : (o : Option Program) (l : List Bay) (k j : ℕ) → j ≢ k → bay_at (changed o l k) j ≡ bay_at l j
 changed_other None l k j n = refl
 changed_other (Some p) l k j n = get_put_other (with_program (bay_at l k) p) l k j n
 
-pub changed_program : (o q : Option Program) (l m : List BayRecord) (k : ℕ) → length l ≡ length m → o ≡ q → program_of (bay_at l k) ≡ program_of (bay_at m k) → program_of (bay_at (changed o l k) k) ≡ program_of (bay_at (changed q m k) k)
+pub changed_program : (o q : Option Program) (l m : List Bay) (k : ℕ) → length l ≡ length m → o ≡ q → program_of (bay_at l k) ≡ program_of (bay_at m k) → program_of (bay_at (changed o l k) k) ≡ program_of (bay_at (changed q m k) k)
 changed_program o q l m k n e s = subst (λ (x : Option Program). program_of (bay_at (changed o l k) k) ≡ program_of (bay_at (changed x m k) k)) e (on o)
   where
     on : (o : Option Program) → program_of (bay_at (changed o l k) k) ≡ program_of (bay_at (changed o m k) k)

@@ -1,17 +1,17 @@
 -- Grants by the ledger as it stands, at any time of a history.
 use Rattle.std.proofs.Common.{ℕ, Bool, ◌||◌, List, [], ◌∷◌, Option}
-use Rattle.access.specs.declared.bay.Grant.{Grant}
-use Rattle.bays.specs.declared.record.BayRecord.{BayRecord}
+use Rattle.access.specs.declared.rights.Grant.{Grant}
+use Rattle.bays.specs.declared.bay.Bay.{Bay}
 use Rattle.bays.specs.declared.stage.Stage.{Stage}
 use Rattle.bays.specs.Bays.{bay_at}
 use Rattle.bays.specs.Grants.{reads, writes}
 use Rattle.history.specs.Calls.{Call}
 use Rattle.history.specs.Hall.{Hall, apply}
 
-abbrev pub grants_at : List BayRecord → ℕ → List (Option Grant)
-grants_at l k = (bay_at l k).bay.grants
+abbrev pub grants_at : List Bay → ℕ → List (Option Grant)
+grants_at l k = (bay_at l k).rights.grants
 
-abbrev pub stage_at : List BayRecord → ℕ → Option Stage
+abbrev pub stage_at : List Bay → ℕ → Option Stage
 stage_at l k = (bay_at l k).stage
 
 -- at some time of a history the grants of w pass the test

@@ -25,7 +25,7 @@ apply_over m c H = by_act c.act
     by_act : (a : Act) → apply (call c.bay c.held a) (over m H) ≡ told_over m (apply (call c.bay c.held a) H)
     by_act (own i) =
         by_stage (at_stage (stage_for i c.held) (bay_at H.bays c.bay).stage)
-        (settle_own c.bay H (outcome i H.book (bay_at H.bays c.bay).bay (program_of (bay_at H.bays c.bay)) H.bytes)) (record { answer = refused 2; hall = H })
+        (settle_own c.bay H (outcome i H.book (bay_at H.bays c.bay).rights (program_of (bay_at H.bays c.bay)) H.bytes)) (record { answer = refused 2; hall = H })
     by_act (shared o) = by_refusal o (verdict c.bay c.held o H.bays)
 
 pub any_footing : AnyFooting

@@ -1,7 +1,7 @@
 -- The three laws.
 use Rattle.std.proofs.Common.{◌≡◌, ℕ, zero, suc, T, ◌⊎◌, List, [], ◌∷◌, length, get_or, replicate, Some, None, Option, sym, refl, ap, ◌∙◌, subst, inl, inr, ext_get_or}
 use mathlib.Core.Path.{subst⁻¹}
-use Rattle.bays.specs.declared.record.BayRecord.{BayRecord}
+use Rattle.bays.specs.declared.bay.Bay.{Bay}
 use Rattle.book.specs.declared.book.Book.{Book}
 use Rattle.bays.specs.declared.stage.Stage.{Stage}
 use Rattle.bays.specs.declared.refusal.Refusal.{Refusal}
@@ -34,8 +34,8 @@ new_bay (suc k) = getD_all free 8 k
 
 sound_new : (b : Book) (s : List ℕ) → Sound (new b s).bays
 sound_new b s = record {
-  bare = λ k a t u. subst (λ (d : BayRecord). T (reads d.bay.grants a)) (new_bay k) u;
-  apart = λ k j a n t u. subst (λ (d : BayRecord). T (reads d.bay.grants a)) (new_bay j) u;
+  bare = λ k a t u. subst (λ (d : Bay). T (reads d.rights.grants a)) (new_bay k) u;
+  apart = λ k j a n t u. subst (λ (d : Bay). T (reads d.rights.grants a)) (new_bay j) u;
 }
 
 sound_run : (h : List Call) (H : Hall) → Sound H.bays → Sound (after h H).bays
@@ -53,7 +53,7 @@ alone : (b : Book) (w : ℕ) (h : List Call) (s : List ℕ) → Paired w All (he
 alone b w h s = paired w All h (new b s) (new b s) (sound_new b s) (λ a t. tt) (sim_new b w All s s refl (λ a q. refl))
 
 no_grants : (b : Book) (s : List ℕ) (w a : ℕ) → T (reads (grants_at (new b s).bays w) a) → ⊥
-no_grants b s w a t = subst (λ (d : BayRecord). T (reads d.bay.grants a)) (new_bay w) t
+no_grants b s w a t = subst (λ (d : Bay). T (reads d.rights.grants a)) (new_bay w) t
 
 pub isolation : Isolation
 isolation b w h h' s s' n n' e f =
@@ -80,7 +80,7 @@ module _ (b : Book) (h h' : List Call) (s : List ℕ) (e : (w : ℕ) → struck 
         | inl o ↦ absurd ((sound_run h (new b s) (sound_new b s)).apart o.0 k a o.1 o.2 (writes_reads (grants_at (after h (new b s)).bays k) a t))
         | inr p ↦ elim ((sim' k).at a tt) [
           | inl o ↦ absurd ((sound_run h' (new b s) (sound_new b s)).apart o.0 k a o.1 o.2
-              (writes_reads (grants_at (after h' (new b s)).bays k) a (subst (λ (d : Entry). T (writes d.bay.grants a)) (same_entry _ _ same_ledger k) t)))
+              (writes_reads (grants_at (after h' (new b s)).bays k) a (subst (λ (d : Entry). T (writes d.rights.grants a)) (same_entry _ _ same_ledger k) t)))
           | inr q ↦ p ∙ sym q
         ]
       ]
@@ -90,7 +90,7 @@ module _ (b : Book) (h h' : List Call) (s : List ℕ) (e : (w : ℕ) → struck 
       elim ((sim 0).at a tt) [
         | inl o ↦ owned a o.0 o.2
         | inr p ↦ elim ((sim' 0).at a tt) [
-          | inl o ↦ owned a o.0 (subst⁻¹ (λ (d : Entry). T (writes d.bay.grants a)) (same_entry _ _ same_ledger o.0) o.2)
+          | inl o ↦ owned a o.0 (subst⁻¹ (λ (d : Entry). T (writes d.rights.grants a)) (same_entry _ _ same_ledger o.0) o.2)
           | inr q ↦ p ∙ sym q
         ]
       ]
@@ -110,7 +110,7 @@ frame_settle k o H a (Some r) n = refl
 frame_act : (k : ℕ) (s : Stage) (c : Act) (H : Hall) (a : ℕ) → (T (writes (grants_at H.bays k) a) → ⊥) → get_or (apply_act k s c H).hall.bytes a 0 ≡ get_or H.bytes a 0
 frame_act k s (own i) H a n =
     by_test (λ (t : Told). get_or t.hall.bytes a 0 ≡ get_or H.bytes a 0) (at_stage (stage_for i s) (bay_at H.bays k).stage) _ _
-    (λ t. outcome_frame H.book (bay_at H.bays k).bay (program_of (bay_at H.bays k)) H.bytes i a n) (λ t. refl)
+    (λ t. outcome_frame H.book (bay_at H.bays k).rights (program_of (bay_at H.bays k)) H.bytes i a n) (λ t. refl)
 frame_act k s (shared o) H a n = frame_settle k o H a (verdict k s o H.bays) n
 
 frame_call : (c : Call) (H : Hall) (a : ℕ) → (T (writes (grants_at H.bays c.bay) a) → ⊥) → get_or (apply c H).hall.bytes a 0 ≡ get_or H.bytes a 0
@@ -139,10 +139,10 @@ zero_act a k s (shared o) H G z = zero_settle a k s o H (verdict k s o H.bays) r
 zero_act a k s (own i) H G z =
     by_test (λ (t : Told). Zero a t.hall) (at_stage (stage_for i s) (bay_at H.bays k).stage) _ _
     (λ t. elim z [
-      | inl x ↦ inl (x.0, still H.bays k (outcome i H.book (bay_at H.bays k).bay (program_of (bay_at H.bays k)) H.bytes).program x.0 a x.1)
+      | inl x ↦ inl (x.0, still H.bays k (outcome i H.book (bay_at H.bays k).rights (program_of (bay_at H.bays k)) H.bytes).program x.0 a x.1)
       | inr e ↦ elim (test (writes (grants_at H.bays k) a)) [
-        | inl u ↦ inl (k, still H.bays k (outcome i H.book (bay_at H.bays k).bay (program_of (bay_at H.bays k)) H.bytes).program k a u)
-        | inr n ↦ inr (outcome_frame H.book (bay_at H.bays k).bay (program_of (bay_at H.bays k)) H.bytes i a n ∙ e)
+        | inl u ↦ inl (k, still H.bays k (outcome i H.book (bay_at H.bays k).rights (program_of (bay_at H.bays k)) H.bytes).program k a u)
+        | inr n ↦ inr (outcome_frame H.book (bay_at H.bays k).rights (program_of (bay_at H.bays k)) H.bytes i a n ∙ e)
       ]
     ])
     (λ t. z)

@@ -1,8 +1,8 @@
 -- Two halls that the bay w cannot tell apart, and one call in one of them or in both.
 use Rattle.std.proofs.Common.{◌≡◌, ℕ, Bool, true, false, cond, T, ◌≢◌, ◌⊎◌, List, length, get_or, Some, None, Option, sym, refl, ap, ◌∙◌, subst, inl, inr, eqb→eq}
 use mathlib.Core.Path.{subst⁻¹}
-use Rattle.access.specs.declared.bay.Bay.{Bay}
-use Rattle.bays.specs.declared.record.BayRecord.{BayRecord}
+use Rattle.access.specs.declared.rights.Rights.{Rights}
+use Rattle.bays.specs.declared.bay.Bay.{Bay}
 use Rattle.bays.specs.declared.stage.Stage.{Stage}
 use Rattle.bays.specs.declared.refusal.Refusal.{Refusal}
 use Rattle.history.proofs.Basics.{by_test, test, writes_reads}
@@ -18,7 +18,7 @@ use Rattle.history.specs.Hall.{Hall, Outcome, Program, Told, apply_act, apply_ow
 use Rattle.history.specs.History.{keeps_act}
 
 -- another bay may write a
-abbrev pub Other : ℕ → List BayRecord → ℕ → Type 0
+abbrev pub Other : ℕ → List Bay → ℕ → Type 0
 Other w l a = (k : ℕ) × (k ≢ w) × T (writes (grants_at l k) a)
 
 pub record Sim (w : ℕ) (Q : ℕ → Type 0) (H K : Hall) : Type 0 where
@@ -29,10 +29,10 @@ pub record Sim (w : ℕ) (Q : ℕ → Type 0) (H K : Hall) : Type 0 where
   pub at : (a : ℕ) → Q a → Other w H.bays a ⊎ (get_or H.bytes a 0 ≡ get_or K.bytes a 0)
 
 -- the grants stay where only a program is put
-pub still : (l : List BayRecord) (k : ℕ) (p : Option Program) (j a : ℕ) → T (writes (grants_at l j) a) → T (writes (grants_at (changed p l k) j) a)
-still l k p j a t = subst⁻¹ (λ (d : Entry). T (writes d.bay.grants a)) (same_entry (changed p l k) l (changed_entries l k p) j) t
+pub still : (l : List Bay) (k : ℕ) (p : Option Program) (j a : ℕ) → T (writes (grants_at l j) a) → T (writes (grants_at (changed p l k) j) a)
+still l k p j a t = subst⁻¹ (λ (d : Entry). T (writes d.rights.grants a)) (same_entry (changed p l k) l (changed_entries l k p) j) t
 
-others : (w : ℕ) (l : List BayRecord) (k : ℕ) (p : Option Program) (a : ℕ) → Other w l a → Other w (changed p l k) a
+others : (w : ℕ) (l : List Bay) (k : ℕ) (p : Option Program) (a : ℕ) → Other w l a → Other w (changed p l k) a
 others w l k p a o = (o.0, o.1, still l k p o.0 a o.2)
 
 -- a call of another bay, in the first hall alone
@@ -51,8 +51,8 @@ struck_own w Q k s i H K n S =
     })
     (λ t. S)
   where
-    gs : Bay
-    gs = (bay_at H.bays k).bay
+    gs : Rights
+    gs = (bay_at H.bays k).rights
 
     p : Program
     p = program_of (bay_at H.bays k)
@@ -74,13 +74,13 @@ both R b c x y x' y' e f g = subst (λ (d : Bool). R (cond b x y) (cond d x' y')
 
 -- what the bay may read is the same in both
 agrees : (w : ℕ) (Q : ℕ → Type 0) (H K : Hall) → Sound H.bays → ((a : ℕ) → T (reads (grants_at H.bays w) a) → Q a) → Sim w Q H K
-    → Agree (bay_at H.bays w).bay H.bytes K.bytes
+    → Agree (bay_at H.bays w).rights H.bytes K.bytes
 agrees w Q H K G f S = record {
   lengths = S.lengths;
   at = λ a t. elim (S.at a (f a t)) [ inl o ↦ absurd (G.apart o.0 w a o.1 o.2 t) | inr e ↦ e ];
 }
 
-own_outcomes : (w : ℕ) (Q : ℕ → Type 0) (H K : Hall) (e f : Outcome) → Sim w Q H K → Alike (bay_at H.bays w).bay e f
+own_outcomes : (w : ℕ) (Q : ℕ → Type 0) (H K : Hall) (e f : Outcome) → Sim w Q H K → Alike (bay_at H.bays w).rights e f
     → ((a : ℕ) → (T (writes (grants_at H.bays w) a) → ⊥) → get_or e.bytes a 0 ≡ get_or H.bytes a 0)
     → ((a : ℕ) → (T (writes (grants_at H.bays w) a) → ⊥) → get_or f.bytes a 0 ≡ get_or K.bytes a 0)
     → Kept w Q (settle_own w H e) (settle_own w K f)
@@ -108,15 +108,15 @@ kept_own w Q s i H K G f S =
     both (Kept w Q) (at_stage (stage_for i s) (bay_at H.bays w).stage) (at_stage (stage_for i s) (bay_at K.bays w).stage) _ _ _ _
     (λ j. at_stage (stage_for i s) (d j).stage)
     (own_outcomes w Q H K _ _ S
-    (subst (λ (x : Outcome). Alike gs (outcome i H.book gs p H.bytes) x) (λ j. outcome i (S.books j) (d j).bay (S.program j) K.bytes)
+    (subst (λ (x : Outcome). Alike gs (outcome i H.book gs p H.bytes) x) (λ j. outcome i (S.books j) (d j).rights (S.program j) K.bytes)
     (outcome_local H.book gs p H.bytes K.bytes (agrees w Q H K G f S) i))
     (λ a n. outcome_frame H.book gs p H.bytes i a n)
-    (λ a n. outcome_frame K.book (bay_at K.bays w).bay (program_of (bay_at K.bays w)) K.bytes i a
-    (subst (λ (x : Entry). T (writes x.bay.grants a) → ⊥) d n)))
+    (λ a n. outcome_frame K.book (bay_at K.bays w).rights (program_of (bay_at K.bays w)) K.bytes i a
+    (subst (λ (x : Entry). T (writes x.rights.grants a) → ⊥) d n)))
     (record { sim = S; answer = refl })
   where
-    gs : Bay
-    gs = (bay_at H.bays w).bay
+    gs : Rights
+    gs = (bay_at H.bays w).rights
 
     p : Program
     p = program_of (bay_at H.bays w)
@@ -125,31 +125,31 @@ kept_own w Q s i H K G f S =
     d = same_entry H.bays K.bays S.ledgers w
 
 -- what open, grant, seal and close make of a bay
-entry_after : (o : Shared) (b c : BayRecord) → entry b ≡ entry c → entry (bay_after o b) ≡ entry (bay_after o c)
+entry_after : (o : Shared) (b c : Bay) → entry b ≡ entry c → entry (bay_after o b) ≡ entry (bay_after o c)
 entry_after open_bay b c e = refl
-entry_after (grant g) b c e = λ i. entry (bay_after (grant g) (record { stage = (e i).stage; bay = (e i).bay; registers = b.registers; stop = b.stop }))
-entry_after seal b c e = λ i. entry (bay_after seal (record { stage = (e i).stage; bay = (e i).bay; registers = b.registers; stop = b.stop }))
+entry_after (grant g) b c e = λ i. entry (bay_after (grant g) (record { stage = (e i).stage; bay = (e i).rights; registers = b.registers; stop = b.stop }))
+entry_after seal b c e = λ i. entry (bay_after seal (record { stage = (e i).stage; bay = (e i).rights; registers = b.registers; stop = b.stop }))
 entry_after close b c e = refl
 
-program_still : (w k : ℕ) (l : List BayRecord) (b : BayRecord) → program_of b ≡ program_of (bay_at l k) → program_of (bay_at (put_bay l k b) w) ≡ program_of (bay_at l w)
+program_still : (w k : ℕ) (l : List Bay) (b : Bay) → program_of b ≡ program_of (bay_at l k) → program_of (bay_at (put_bay l k b) w) ≡ program_of (bay_at l w)
 program_still w k l b e = elim (get_put b l k w) [ inl p ↦ ap program_of p.1 ∙ e ∙ ap (λ (x : ℕ). program_of (bay_at l x)) (sym p.0) | inr q ↦ ap program_of q ]
 
-kept_at : (w k : ℕ) (l m : List BayRecord) (b c : BayRecord) → program_of b ≡ program_of (bay_at l k) → program_of c ≡ program_of (bay_at m k) → program_of (bay_at l w) ≡ program_of (bay_at m w)
+kept_at : (w k : ℕ) (l m : List Bay) (b c : Bay) → program_of b ≡ program_of (bay_at l k) → program_of c ≡ program_of (bay_at m k) → program_of (bay_at l w) ≡ program_of (bay_at m w)
     → program_of (bay_at (put_bay l k b) w) ≡ program_of (bay_at (put_bay m k c) w)
 kept_at w k l m b c f g e = program_still w k l b f ∙ e ∙ sym (program_still w k m c g)
 
-program_after : (w k : ℕ) (o : Shared) (l m : List BayRecord) → entries l ≡ entries m → program_of (bay_at l w) ≡ program_of (bay_at m w)
+program_after : (w k : ℕ) (o : Shared) (l m : List Bay) → entries l ≡ entries m → program_of (bay_at l w) ≡ program_of (bay_at m w)
     → program_of (bay_at (put_bay l k (bay_after o (bay_at l k))) w) ≡ program_of (bay_at (put_bay m k (bay_after o (bay_at m k))) w)
 program_after w k open_bay l m n e = program_put _ _ l m k w (same_length l m n) refl e
 program_after w k (grant g) l m n e = kept_at w k l m (bay_after (grant g) (bay_at l k)) (bay_after (grant g) (bay_at m k)) refl refl e
 program_after w k seal l m n e = kept_at w k l m (bay_after seal (bay_at l k)) (bay_after seal (bay_at m k)) refl refl e
 program_after w k close l m n e = program_put _ _ l m k w (same_length l m n) refl e
 
-same_bytes_after : (o : Shared) (b c : BayRecord) (bs : List ℕ) → entry b ≡ entry c → bytes_after o b bs ≡ bytes_after o c bs
+same_bytes_after : (o : Shared) (b c : Bay) (bs : List ℕ) → entry b ≡ entry c → bytes_after o b bs ≡ bytes_after o c bs
 same_bytes_after open_bay b c bs e = refl
 same_bytes_after (grant g) b c bs e = refl
 same_bytes_after seal b c bs e = refl
-same_bytes_after close b c bs e = λ i. bytes_after close (record { stage = (e i).stage; bay = (e i).bay; registers = b.registers; stop = b.stop }) bs
+same_bytes_after close b c bs e = λ i. bytes_after close (record { stage = (e i).stage; bay = (e i).rights; registers = b.registers; stop = b.stop }) bs
 
 -- an open, grant, seal or close of any bay in both
 kept_shared : (w : ℕ) (Q : ℕ → Type 0) (k : ℕ) (s : Stage) (o : Shared) (H K : Hall) → Sound H.bays → Sim w Q H K

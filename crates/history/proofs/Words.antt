@@ -2,8 +2,8 @@
 use Rattle.std.proofs.Common.{◌≡◌, ℕ, zero, suc, Bool, true, not, ◌&&◌, ◌||◌, T, eqb, leb, ◌⊎◌, List, [], ◌∷◌, get_or, set, replicate, Some, None, Option, refl, subst, inl, inr, eqb→eq}
 use mathlib.Core.Path.{subst⁻¹}
 use lib.Dec.{not_T, eqb_refl}
-use Rattle.access.specs.declared.bay.Grant.{Grant}
-use Rattle.bays.specs.declared.record.BayRecord.{BayRecord}
+use Rattle.access.specs.declared.rights.Grant.{Grant}
+use Rattle.bays.specs.declared.bay.Bay.{Bay}
 use Rattle.bays.specs.declared.stage.Stage.{Stage}
 use Rattle.bays.specs.declared.stage.Stage.TheVariants.{Preparing}
 use Rattle.bays.specs.declared.refusal.Refusal.{Refusal}
@@ -22,34 +22,34 @@ use Rattle.history.specs.Hall.{Hall, Told, apply, apply_act, bay_after, outcome,
 use Rattle.history.specs.History.{accepted, after, granted as granted-to, granted_write, grants_byte, grants_write, is_close, not_refused, under_write}
 
 -- a bay that is not free has its place in the list
-here_set : (s : Stage) (d : BayRecord) (l : List BayRecord) (k : ℕ) → T (at_stage s (get_or l k free).stage) → get_or (set l k d) k free ≡ d
+here_set : (s : Stage) (d : Bay) (l : List Bay) (k : ℕ) → T (at_stage s (get_or l k free).stage) → get_or (set l k d) k free ≡ d
 here_set s d [] k t = absurd t
 here_set s d (x ∷ l) zero t = refl
 here_set s d (x ∷ l) (suc k) t = here_set s d l k t
 
-here : (s : Stage) (d : BayRecord) (l : List BayRecord) (k : ℕ) → T (at_stage s (stage_at l k)) → bay_at (put_bay l k d) k ≡ d
+here : (s : Stage) (d : Bay) (l : List Bay) (k : ℕ) → T (at_stage s (stage_at l k)) → bay_at (put_bay l k d) k ≡ d
 unfolding bay_at put_bay
 here s d l zero t = absurd t
 here s d l (suc k) t = here_set s d l k t
 
-accepted_at : (k : ℕ) (s : Stage) (g : Grant) (l : List BayRecord) → verdict k s (grant g) l ≡ None → T (at_stage Preparing (stage_at l k))
+accepted_at : (k : ℕ) (s : Stage) (g : Grant) (l : List Bay) → verdict k s (grant g) l ≡ None → T (at_stage Preparing (stage_at l k))
 accepted_at k s g l e = (passed (at_stage Preparing (stage_at l k)) _ OtherStage e).0
 
-room_at : (k : ℕ) (s : Stage) (g : Grant) (l : List BayRecord) → verdict k s (grant g) l ≡ None → T (room (grants_at l k))
+room_at : (k : ℕ) (s : Stage) (g : Grant) (l : List Bay) → verdict k s (grant g) l ≡ None → T (room (grants_at l k))
 room_at k s g l e = (passed (room (grants_at l k)) _ Full (passed (leb g.first g.last) _ Reversed (passed (at_stage Preparing (stage_at l k)) _ OtherStage e).1).1).0
 
-closed_at : (k : ℕ) (s : Stage) (l : List BayRecord) → verdict k s close l ≡ None → T (at_stage s (stage_at l k))
+closed_at : (k : ℕ) (s : Stage) (l : List Bay) → verdict k s close l ≡ None → T (at_stage s (stage_at l k))
 closed_at k s l e = (passed (at_stage s (stage_at l k)) None OtherStage e).0
 
 -- what is under a grant after a call was so before, or is granted by the call; for reads and for writes alike
 module _ (f : List (Option Grant) → Bool) (p : Act → Bool) (none-at : T (f (replicate 6 None)) → ⊥) (first : (g : Grant) (gs : List (Option Grant)) → T (f (added g gs)) → T (p (shared (grant g))) ⊎ T (f gs)) where
-  grow_entry : (w k : ℕ) (o : Shared) (l : List BayRecord) → T (f (grants_at (put_bay l k (bay_after o (bay_at l k))) w)) → T (f (grants_at l w)) ⊎ (T (p (shared o)) × (w ≡ k))
+  grow_entry : (w k : ℕ) (o : Shared) (l : List Bay) → T (f (grants_at (put_bay l k (bay_after o (bay_at l k))) w)) → T (f (grants_at l w)) ⊎ (T (p (shared o)) × (w ≡ k))
   grow_entry w k o l t = elim (get_put (bay_after o (bay_at l k)) l k w) [
-    | inl q ↦ there o q.0 (subst (λ (d : BayRecord). T (f d.bay.grants)) q.1 t)
-    | inr q ↦ inl (subst (λ (d : BayRecord). T (f d.bay.grants)) q t)
+    | inl q ↦ there o q.0 (subst (λ (d : Bay). T (f d.rights.grants)) q.1 t)
+    | inr q ↦ inl (subst (λ (d : Bay). T (f d.rights.grants)) q t)
   ]
     where
-      there : (o : Shared) → w ≡ k → T (f (bay_after o (bay_at l k)).bay.grants) → T (f (grants_at l w)) ⊎ (T (p (shared o)) × (w ≡ k))
+      there : (o : Shared) → w ≡ k → T (f (bay_after o (bay_at l k)).rights.grants) → T (f (grants_at l w)) ⊎ (T (p (shared o)) × (w ≡ k))
       there open_bay e t = absurd (none-at t)
       there (grant g) e t = elim (first g (grants_at l k) t) [ inl u ↦ inr (u, e) | inr u ↦ inl (subst⁻¹ (λ (x : ℕ). T (f (grants_at l x))) e u) ]
       there seal e t = inl (subst⁻¹ (λ (x : ℕ). T (f (grants_at l x))) e t)
@@ -66,7 +66,7 @@ module _ (f : List (Option Grant) → Bool) (p : Act → Bool) (none-at : T (f (
   grow_act : (w k : ℕ) (s : Stage) (c : Act) (H : Hall) → T (f (grants_at (apply_act k s c H).hall.bays w))
       → T (f (grants_at H.bays w)) ⊎ T (p c && (eqb k w && not_refused (apply_act k s c H).answer))
   grow_act w k s (own i) H t = inl (by_test (λ (r : Told). T (f (grants_at r.hall.bays w)) → T (f (grants_at H.bays w))) (at_stage (stage_for i s) (stage_at H.bays k)) _ _
-      (λ u x. subst (λ (d : Entry). T (f d.bay.grants)) (same_entry _ H.bays (changed_entries H.bays k (outcome i H.book (bay_at H.bays k).bay (program_of (bay_at H.bays k)) H.bytes).program) w) x) (λ u x. x) t)
+      (λ u x. subst (λ (d : Entry). T (f d.rights.grants)) (same_entry _ H.bays (changed_entries H.bays k (outcome i H.book (bay_at H.bays k).rights (program_of (bay_at H.bays k)) H.bytes).program) w) x) (λ u x. x) t)
   grow_act w k s (shared o) H t = grow_settle w k o H (verdict k s o H.bays) t
 
   grow : (w : ℕ) (c : Call) (H : Hall) → T (f (grants_at (apply c H).hall.bays w)) → T (f (grants_at H.bays w)) ⊎ T (p c.act && accepted w c H)
@@ -106,7 +106,7 @@ gives_settle w a k s o H (Some n) e t u r = absurd r
 gives_settle w a k s open_bay H None e t u r = absurd t
 gives_settle w a k s (grant g) H None e t u r =
     subst (λ (x : ℕ). T (writes (grants_at (settle None k (grant g) H).hall.bays x) a)) (eqb→eq k w u)
-    (subst⁻¹ (λ (d : BayRecord). T (writes d.bay.grants a)) (here Preparing _ H.bays k (accepted_at k s g H.bays e)) (added_new g Write a (grants_at H.bays k) (room_at k s g H.bays e) (has_covers g a t)))
+    (subst⁻¹ (λ (d : Bay). T (writes d.rights.grants a)) (here Preparing _ H.bays k (accepted_at k s g H.bays e)) (added_new g Write a (grants_at H.bays k) (room_at k s g H.bays e) (has_covers g a t)))
 gives_settle w a k s seal H None e t u r = absurd t
 gives_settle w a k s close H None e t u r = absurd t
 
@@ -138,7 +138,7 @@ ends_settle w a k s open_bay H None e t u r = absurd t
 ends_settle w a k s (grant g) H None e t u r = absurd t
 ends_settle w a k s seal H None e t u r = absurd t
 ends_settle w a k s close H None e t u r = λ x.
-    subst (λ (d : BayRecord). T (writes d.bay.grants a)) (here s _ H.bays k (closed_at k s H.bays e))
+    subst (λ (d : Bay). T (writes d.rights.grants a)) (here s _ H.bays k (closed_at k s H.bays e))
     (subst⁻¹ (λ (y : ℕ). T (writes (grants_at (settle None k close H).hall.bays y) a)) (eqb→eq k w u) x)
 
 ends_act : (w a k : ℕ) (s : Stage) (c : Act) (H : Hall) → T (is_close c) → T (eqb k w) → T (not_refused (apply_act k s c H).answer) → T (writes (grants_at (apply_act k s c H).hall.bays w) a) → ⊥

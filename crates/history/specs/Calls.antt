@@ -4,7 +4,7 @@ use Rattle.bays.specs.Refusals.{number}
 use Rattle.bays.specs.declared.refusal.Refusal.{Refusal}
 use Rattle.bays.specs.declared.stage.Stage.{Stage}
 use Rattle.access.specs.Stops as stops
-use Rattle.access.specs.declared.bay.Grant.{Grant}
+use Rattle.access.specs.declared.rights.Grant.{Grant}
 use Rattle.machine.specs.declared.registers.Registers.{Registers}
 use Rattle.access.specs.declared.stop.Access.{Access}
 use Rattle.access.specs.declared.stop.Stop.{Stop}

@@ -5,8 +5,8 @@ use Rattle.book.specs.declared.book.Book.{Book}
 use Rattle.store.specs.Bulk.{taken, written}
 use Rattle.access.specs.Access.{within}
 use Rattle.turns.specs.Turn.{Run, run}
-use Rattle.access.specs.declared.bay.Bay.{Bay}
-use Rattle.access.specs.declared.bay.Grant.{Grant}
+use Rattle.access.specs.declared.rights.Rights.{Rights}
+use Rattle.access.specs.declared.rights.Grant.{Grant}
 use Rattle.machine.specs.declared.registers.Registers.{Registers}
 use Rattle.access.specs.declared.stop.Access.TheVariants.{Read, Write}
 use Rattle.access.specs.declared.stop.Stop.{Stop}
@@ -14,7 +14,7 @@ use Rattle.bays.specs.Bays.{bay_at, clash, free, put_bay, wiped}
 use Rattle.bays.specs.Grants.{added, room}
 use Rattle.bays.specs.Refusals.{number}
 use Rattle.bays.specs.Stages.{at_stage, is_free}
-use Rattle.bays.specs.declared.record.BayRecord.{BayRecord}
+use Rattle.bays.specs.declared.bay.Bay.{Bay}
 use Rattle.bays.specs.declared.refusal.Refusal.{Refusal}
 use Rattle.bays.specs.declared.refusal.Refusal.TheVariants.{NoSuchBay, OtherStage, Taken, Reversed, Full, Clash}
 use Rattle.bays.specs.declared.stage.Stage.{Stage}
@@ -23,7 +23,7 @@ use Rattle.history.specs.Calls.{Act, Answer, Call, Own, Shared, close, copied, c
 
 pub record Hall : Type 0 where
   pub book : Book
-  pub bays : List BayRecord
+  pub bays : List Bay
   pub bytes : List ℕ
   pub footing : List ℕ
 
@@ -40,11 +40,11 @@ pub record Program : Type 0 where
   pub registers : Registers
   pub stop : Option Stop
 
-abbrev pub program_of : BayRecord → Program
+abbrev pub program_of : Bay → Program
 program_of b = record { registers = b.registers; stop = b.stop }
 
-abbrev pub with_program : BayRecord → Program → BayRecord
-with_program b p = record { stage = b.stage; bay = b.bay; registers = p.registers; stop = p.stop }
+abbrev pub with_program : Bay → Program → Bay
+with_program b p = record { stage = b.stage; rights = b.rights; registers = p.registers; stop = p.stop }
 
 -- what load, set, turn, look and copy answer and leave, by the bay's grants and program and the store's bytes;
 -- without a new program the bay stays as it is
@@ -57,23 +57,23 @@ abbrev pub turn_end : Run → Outcome
 turn_end w = record { answer = turned w.turned.steps (stop_told w.turned.stop); program = Some (record { registers = w.registers; stop = w.turned.stop }); bytes = w.bytes }
 
 -- a standing stop is answered again, with no step
-abbrev pub turn_from : Option Stop → ℕ → Book → Bay → Program → List ℕ → Outcome
-turn_from (Some t) n b bay p bs = record { answer = turned 0 (stop_told (Some t)); program = None; bytes = bs }
-turn_from None n b bay p bs = turn_end (run (reading b.tables) bay n 0 p.registers bs)
+abbrev pub turn_from : Option Stop → ℕ → Book → Rights → Program → List ℕ → Outcome
+turn_from (Some t) n b rights p bs = record { answer = turned 0 (stop_told (Some t)); program = None; bytes = bs }
+turn_from None n b rights p bs = turn_end (run (reading b.tables) rights n 0 p.registers bs)
 
-abbrev pub outcome : Own → Book → Bay → Program → List ℕ → Outcome
-outcome (load at vs) b bay p bs = cond (within bay Write at (length vs)) (record { answer = done; program = None; bytes = written bs at vs }) (record { answer = refused 7; program = None; bytes = bs })
-outcome (set_all r) b bay p bs = record { answer = done; program = Some (record { registers = r; stop = None }); bytes = bs }
-outcome (turn n) b bay p bs = turn_from p.stop n b bay p bs
-outcome look b bay p bs = record { answer = shown p.registers (stop_told p.stop); program = None; bytes = bs }
-outcome (copy at n) b bay p bs = record { answer = cond (within bay Read at n) (copied (taken bs at n)) (refused 7); program = None; bytes = bs }
+abbrev pub outcome : Own → Book → Rights → Program → List ℕ → Outcome
+outcome (load at vs) b rights p bs = cond (within rights Write at (length vs)) (record { answer = done; program = None; bytes = written bs at vs }) (record { answer = refused 7; program = None; bytes = bs })
+outcome (set_all r) b rights p bs = record { answer = done; program = Some (record { registers = r; stop = None }); bytes = bs }
+outcome (turn n) b rights p bs = turn_from p.stop n b rights p bs
+outcome look b rights p bs = record { answer = shown p.registers (stop_told p.stop); program = None; bytes = bs }
+outcome (copy at n) b rights p bs = record { answer = cond (within rights Read at n) (copied (taken bs at n)) (refused 7); program = None; bytes = bs }
 
 -- what a call is told, and the hall after it
 pub record Told : Type 0 where
   pub answer : Answer
   pub hall : Hall
 
-abbrev pub changed : Option Program → List BayRecord → ℕ → List BayRecord
+abbrev pub changed : Option Program → List Bay → ℕ → List Bay
 changed None l k = l
 changed (Some p) l k = put_bay l k (with_program (bay_at l k) p)
 
@@ -89,36 +89,36 @@ stage_for look s = s
 stage_for (copy at n) s = s
 
 abbrev pub apply_own : ℕ → Stage → Own → Hall → Told
-apply_own k s i H = cond (at_stage (stage_for i s) (bay_at H.bays k).stage) (settle_own k H (outcome i H.book (bay_at H.bays k).bay (program_of (bay_at H.bays k)) H.bytes)) (record { answer = refused 2; hall = H })
+apply_own k s i H = cond (at_stage (stage_for i s) (bay_at H.bays k).stage) (settle_own k H (outcome i H.book (bay_at H.bays k).rights (program_of (bay_at H.bays k)) H.bytes)) (record { answer = refused 2; hall = H })
 
 -- open, grant, seal and close: the refusal, if any, by stages and grants alone
-abbrev pub verdict : ℕ → Stage → Shared → List BayRecord → Option Refusal
+abbrev pub verdict : ℕ → Stage → Shared → List Bay → Option Refusal
 verdict k s open_bay l = cond (nat_le 1 k && nat_le k 8) (cond (is_free (bay_at l k).stage) None (Some Taken)) (Some NoSuchBay)
 verdict k s (grant g) l =
     cond (at_stage Preparing (bay_at l k).stage)
-    (cond (nat_le g.first g.last) (cond (room (bay_at l k).bay.grants) (cond (clash g l) (Some Clash) None) (Some Full)) (Some Reversed))
+    (cond (nat_le g.first g.last) (cond (room (bay_at l k).rights.grants) (cond (clash g l) (Some Clash) None) (Some Full)) (Some Reversed))
     (Some OtherStage)
 verdict k s seal l = cond (at_stage Preparing (bay_at l k).stage) None (Some OtherStage)
 verdict k s close l = cond (at_stage s (bay_at l k).stage) None (Some OtherStage)
 
-abbrev pub with_grant : BayRecord → Grant → BayRecord
-with_grant b g = record { stage = b.stage; bay = record { grants = added g b.bay.grants }; registers = b.registers; stop = b.stop }
+abbrev pub with_grant : Bay → Grant → Bay
+with_grant b g = record { stage = b.stage; rights = record { grants = added g b.rights.grants }; registers = b.registers; stop = b.stop }
 
-abbrev pub with_stage : BayRecord → Stage → BayRecord
-with_stage b s = record { stage = Some s; bay = b.bay; registers = b.registers; stop = b.stop }
+abbrev pub with_stage : Bay → Stage → Bay
+with_stage b s = record { stage = Some s; rights = b.rights; registers = b.registers; stop = b.stop }
 
-abbrev pub bay_after : Shared → BayRecord → BayRecord
+abbrev pub bay_after : Shared → Bay → Bay
 bay_after open_bay b = with_stage free Preparing
 bay_after (grant g) b = with_grant b g
 bay_after seal b = with_stage b Sealed
 bay_after close b = free
 
 -- close makes all bytes of the bay's write grants zero
-abbrev pub bytes_after : Shared → BayRecord → List ℕ → List ℕ
+abbrev pub bytes_after : Shared → Bay → List ℕ → List ℕ
 bytes_after open_bay b bs = bs
 bytes_after (grant g) b bs = bs
 bytes_after seal b bs = bs
-bytes_after close b bs = wiped b.bay.grants 0 bs
+bytes_after close b bs = wiped b.rights.grants 0 bs
 
 abbrev pub perform : ℕ → Shared → Hall → Hall
 perform k o H = record { book = H.book; bays = put_bay H.bays k (bay_after o (bay_at H.bays k)); bytes = bytes_after o (bay_at H.bays k) H.bytes; footing = H.footing }

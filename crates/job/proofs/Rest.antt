@@ -1,8 +1,8 @@
 -- One turn of several, and the rest of the run.
 use Rattle.std.proofs.Common.{◌≡◌, ℕ, suc, ◌+◌, ◌-◌, ◌*◌, ◌<◌, true, false, List, Some, None, Option, refl, sym, ap, ◌∙◌, add_assoc, add_comm, suc-mul, arith}
 use Rattle.std.specs.Option.{is_some}
-use Rattle.code.specs.declared.reading.Reading.{Reading}
-use Rattle.access.specs.declared.bay.Bay.{Bay}
+use Rattle.isa.specs.declared.reading.Reading.{Reading}
+use Rattle.access.specs.declared.rights.Rights.{Rights}
 use Rattle.access.specs.declared.stop.Stop.{Stop}
 use Rattle.machine.specs.declared.registers.Registers.{Registers}
 use Rattle.turns.proofs.Split.{split}
@@ -25,18 +25,18 @@ continues None q next h = refl
 continues (Some u) q next h = cc
 
 -- k turns are done, and t is the one that follows
-module _ (reads : ℕ → Reading) (bay : Bay) (turns k b : ℕ) (h : k < turns) (r r' : Registers) (bs bs' : List ℕ) (t : Turned) (e : after r' bs' t ≡ run reads bay b 0 r bs) where
+module _ (reads : ℕ → Reading) (rights : Rights) (turns k b : ℕ) (h : k < turns) (r r' : Registers) (bs bs' : List ℕ) (t : Turned) (e : after r' bs' t ≡ run reads rights b 0 r bs) where
   abbrev rest : Registers → List ℕ → Run
-  rest = run reads bay ((turns - (k + 1)) * b) 0
+  rest = run reads rights ((turns - (k + 1)) * b) 0
 
   one_more : (turns - k) * b ≡ b + (turns - (k + 1)) * b
   one_more = let d : turns - k ≡ suc (turns - (k + 1)) = omega arith in ap (λ i. i * b) d ∙ suc-mul (turns - (k + 1)) b ∙ add_comm ((turns - (k + 1)) * b) b
 
-  parted : run reads bay ((turns - k) * b) 0 r bs ≡ unless t.stop (after r' bs' t) rest
-  parted = ap (λ n. run reads bay n 0 r bs) one_more ∙ split reads bay b ((turns - (k + 1)) * b) r bs ∙ ap (λ q. followed q rest) (sym e)
+  parted : run reads rights ((turns - k) * b) 0 r bs ≡ unless t.stop (after r' bs' t) rest
+  parted = ap (λ n. run reads rights n 0 r bs) one_more ∙ split reads rights b ((turns - (k + 1)) * b) r bs ∙ ap (λ q. followed q rest) (sym e)
 
-  pub goes_on : (s : ℕ) → is_some t.stop ≡ false → later (s + t.steps) (rest r' bs') ≡ later s (run reads bay ((turns - k) * b) 0 r bs)
+  pub goes_on : (s : ℕ) → is_some t.stop ≡ false → later (s + t.steps) (rest r' bs') ≡ later s (run reads rights ((turns - k) * b) 0 r bs)
   goes_on s h = sym (ap (later s) (parted ∙ continues t.stop (after r' bs' t) rest h) ∙ again s t.steps (rest r' bs'))
 
-  pub stops : (s : ℕ) → is_some t.stop ≡ true → later s (after r' bs' t) ≡ later s (run reads bay ((turns - k) * b) 0 r bs)
+  pub stops : (s : ℕ) → is_some t.stop ≡ true → later s (after r' bs' t) ≡ later s (run reads rights ((turns - k) * b) 0 r bs)
   stops s h = sym (ap (later s) (parted ∙ ends t.stop (after r' bs' t) rest h))

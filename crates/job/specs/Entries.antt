@@ -1,7 +1,7 @@
 -- What a line of a job may be about, and how it is written.
 use Rattle.std.specs.Prelude.{ℕ, List, [], ◌∷◌, codes, Option, Result}
 use Rattle.std.specs.Option.{ok_or}
-use Rattle.code.specs.Spelling.{first}
+use Rattle.text.specs.Spelling.{first}
 use Rattle.job.specs.declared.entry.Entry.{Entry}
 use Rattle.job.specs.declared.entry.Entry.TheVariants.{Bay, Grant, Registers, Input, Output, Turns, Records, Results}
 use Rattle.job.specs.declared.fault.Fault.{Fault}

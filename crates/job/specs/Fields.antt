@@ -6,9 +6,9 @@ use Rattle.std.specs.Str.{bytes_eq, is_utf8}
 use Rattle.text.specs.Search.{Bytes, empty}
 use Rattle.text.specs.Numbers.{number_of}
 use Rattle.access.specs.Access.{bind}
-use Rattle.access.specs.declared.bay.Grant.{Grant}
-use Rattle.access.specs.declared.bay.Kind.{Kind}
-use Rattle.access.specs.declared.bay.Kind.TheVariants as kinds
+use Rattle.access.specs.declared.rights.Grant.{Grant}
+use Rattle.access.specs.declared.rights.Kind.{Kind}
+use Rattle.access.specs.declared.rights.Kind.TheVariants as kinds
 use Rattle.machine.specs.declared.registers.Registers.{Registers}
 use Rattle.bays.specs.Bays.{zeros}
 use Rattle.job.specs.declared.area.Area.{Area}

@@ -3,7 +3,7 @@ use Rattle.std.specs.Prelude.{ℕ, not, cond, List, [], ◌∷◌, replicate, So
 use Rattle.std.specs.Borrow.{Bor}
 use Rattle.text.specs.Search.{Bytes}
 use Rattle.access.specs.Access.{bind}
-use Rattle.access.specs.declared.bay.Grant.{Grant}
+use Rattle.access.specs.declared.rights.Grant.{Grant}
 use Rattle.bays.specs.Grants.{room, clashes_any, added}
 use Rattle.machine.specs.declared.registers.Registers.{Registers}
 use Rattle.job.specs.declared.area.Area.{Area}

@@ -1,6 +1,6 @@
 -- The run of a record.
 use Rattle.std.specs.Prelude.{ℕ, ◌*◌, List}
-use Rattle.code.specs.declared.reading.Reading.{Reading}
+use Rattle.isa.specs.declared.reading.Reading.{Reading}
 use Rattle.job.specs.declared.job.Job.{Job}
 use Rattle.job.specs.declared.run.Ran.{Ran}
 use Rattle.turns.specs.Turn.{Run, run}
@@ -12,4 +12,4 @@ reached q bs = record { registers = q.registers; bytes = bs; turned = record { s
 
 -- the record at the job's input, and then one run of as many steps as all the turns have
 abbrev pub recorded : (ℕ → Reading) → Job → List ℕ → List ℕ → Run
-recorded reads j bs counts = run reads j.bay (j.turns.count * j.turns.budget) 0 j.registers (written bs j.input.address counts)
+recorded reads j bs counts = run reads j.rights (j.turns.count * j.turns.budget) 0 j.registers (written bs j.input.address counts)

@@ -3,7 +3,7 @@ use Rattle.std.specs.Prelude.{ℕ, ◌+◌, ◌*◌, not, cond, [], ◌∷◌, �
 use Rattle.std.specs.Option.{ok_or}
 use Rattle.text.specs.Search.{Bytes, empty}
 use Rattle.access.specs.Access.{bind, within}
-use Rattle.access.specs.declared.bay.Bay.{Bay}
+use Rattle.access.specs.declared.rights.Rights.{Rights}
 use Rattle.access.specs.declared.stop.Access.TheVariants as access
 use Rattle.machine.specs.declared.registers.Registers.{Registers}
 use Rattle.job.specs.declared.area.Area.{Area}
@@ -19,7 +19,7 @@ use Rattle.job.specs.Lines.{SoFar, nothing, line_rule}
 -- a job, with the names of its files by their bytes
 pub record Says : Type 0 where
   pub number : ℕ
-  pub bay : Bay
+  pub rights : Rights
   pub registers : Registers
   pub input : Area
   pub output : Area
@@ -37,7 +37,7 @@ there e o = ok_or o (Missing e)
 
 -- records can be put in, and results can be taken
 abbrev pub reached : Says → Result Says Fault
-reached j = cond (not (within j.bay access.Write j.input.address (2 * j.input.halfwords))) (Err (Denied entry.Input)) (cond (not (within j.bay access.Read j.output.address (2 * j.output.halfwords))) (Err (Denied entry.Output)) (Ok j))
+reached j = cond (not (within j.rights access.Write j.input.address (2 * j.input.halfwords))) (Err (Denied entry.Input)) (cond (not (within j.rights access.Read j.output.address (2 * j.output.halfwords))) (Err (Denied entry.Output)) (Ok j))
 
 -- the whole job, after the last line
 unfoldable pub finished : SoFar → Result Says Fault
@@ -49,7 +49,7 @@ finished d = do
   turns ← there entry.Turns d.turns
   records ← there entry.Records d.records
   results ← there entry.Results d.results
-  reached (record { number = number; bay = record { grants = d.grants }; registers = registers; input = input; output = output; turns = turns; records = records; results = results })
+  reached (record { number = number; rights = record { grants = d.grants }; registers = registers; input = input; output = output; turns = turns; records = records; results = results })
 
 -- a fault is one of line n
 abbrev pub fault_at : ℕ → Fault → Refused
@@ -73,7 +73,7 @@ job_of s = gather [] 1 nothing s
 
 -- the same of a job that borrows the names
 abbrev pub says : Job → Says
-says j = record { number = j.number; bay = j.bay; registers = j.registers; input = j.input; output = j.output; turns = j.turns; records = j.records.now; results = j.results.now }
+says j = record { number = j.number; rights = j.rights; registers = j.registers; input = j.input; output = j.output; turns = j.turns; records = j.records.now; results = j.results.now }
 
 abbrev pub spoken : {E : Type 0} → Result Job E → Result Says E
 spoken (Err e) = Err e

@@ -8,7 +8,7 @@ use crate::entry::Entry;
 use crate::fault::Fault;
 use crate::fields::Fields;
 use crate::job::{Job, Turns};
-use access::{Access, Bay, Grant};
+use access::{Access, Grant, Rights};
 use bays::{clash_with_any, first_vacant};
 use machine::Registers;
 
@@ -104,7 +104,7 @@ impl<'a> Draft<'a> {
         } = self;
         let job = Job {
             number: number.ok_or(Fault::Missing(Entry::Bay))?,
-            bay: Bay { grants },
+            rights: Rights { grants },
             registers: registers.ok_or(Fault::Missing(Entry::Registers))?,
             input: input.ok_or(Fault::Missing(Entry::Input))?,
             output: output.ok_or(Fault::Missing(Entry::Output))?,
@@ -113,15 +113,15 @@ impl<'a> Draft<'a> {
             results: results.ok_or(Fault::Missing(Entry::Results))?,
         };
         let Job {
-            bay,
+            rights,
             input,
             output,
             ..
         } = &job;
-        if !bay.reaches(Access::Write, input.address, input.bytes()) {
+        if !rights.reaches(Access::Write, input.address, input.bytes()) {
             return Err(Fault::Denied(Entry::Input));
         }
-        if !bay.reaches(Access::Read, output.address, output.bytes()) {
+        if !rights.reaches(Access::Read, output.address, output.bytes()) {
             return Err(Fault::Denied(Entry::Output));
         }
         Ok(job)

@@ -2,7 +2,7 @@ ghost use Rattle.std.specs.Prelude.{◌≡◌, Some};
 ghost use Rattle.job.specs.Entries.{spelled, entry_read};
 
 use crate::fault::Fault;
-use code::{Spelled, first_spelled};
+use text::{Spelled, first_spelled};
 use std::fmt;
 
 // What a line of a job is about, by its first field.

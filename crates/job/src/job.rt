@@ -1,5 +1,5 @@
 use crate::area::Area;
-use access::Bay;
+use access::Rights;
 use machine::Registers;
 
 // At most so many turns, each of that budget.
@@ -14,7 +14,7 @@ pub struct Turns {
 #[derive(Drop)]
 pub struct Job<'a> {
     pub number: u8,
-    pub bay: Bay,
+    pub rights: Rights,
     pub registers: Registers,
     pub input: Area,
     pub output: Area,

@@ -20,7 +20,7 @@ pub struct Ran {
 
 // The job's turns from its registers, or those up to a stop.
 fn run_turns<S: Store>(book: &Book, job: &Job, store: &mut S) -> Ran
-    ensures { reached result (S.Store.bytes store.new) ≡ run (reading book.now.tables) job.now.bay (job.now.turns.count * job.now.turns.budget) 0 job.now.registers (S.Store.bytes store.old) }
+    ensures { reached result (S.Store.bytes store.new) ≡ run (reading book.now.tables) job.now.rights (job.now.turns.count * job.now.turns.budget) 0 job.now.registers (S.Store.bytes store.old) }
 {
     let mut ran = Ran {
         steps: 0,
@@ -29,7 +29,7 @@ fn run_turns<S: Store>(book: &Book, job: &Job, store: &mut S) -> Ran
     };
     // Turns are counted, and nothing is indexed.
     for _k in 0..job.turns.count {
-        let turned = turn(book, &mut ran.registers, store, &job.bay, job.turns.budget);
+        let turned = turn(book, &mut ran.registers, store, &job.rights, job.turns.budget);
         ran.steps += u32::from(turned.steps);
         if turned.stop.is_some() {
             ran.stop = turned.stop;

@@ -1,12 +1,12 @@
 -- What a line says.
 use Rattle.std.specs.Prelude.{ℕ, cond, List, [], ◌∷◌, Some, None, Ok, Err, codes, Option, Result, ◌==◌}
 use Rattle.std.specs.Str.{bytes_eq}
-use Rattle.code.specs.Formats.{format_of}
-use Rattle.code.specs.Names.{name_of}
+use Rattle.isa.specs.Formats.{format_of}
+use Rattle.isa.specs.Names.{name_of}
 use Rattle.text.specs.Numbers.{hex_word}
 use Rattle.text.specs.Search.{Bytes}
 use Rattle.book.specs.declared.tables.Tables.{Tables}
-use Rattle.book.specs.declared.unput.Unput.TheVariants.{Unavailable, Unfit}
+use Rattle.book.specs.declared.unput.EncodeError.TheVariants.{Unavailable, Unfit}
 use Rattle.book.specs.Put.{put}
 use Rattle.listing.specs.declared.fault.Fault.{Fault}
 use Rattle.listing.specs.declared.fault.Fault.TheVariants.{Address, Words, Name, Format, Number, Put}

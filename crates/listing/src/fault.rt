@@ -1,8 +1,8 @@
 ghost use Rattle.std.specs.Prelude.{◌≡◌};
 ghost use Rattle.listing.specs.declared.fault.Fault.TheVariants.{Unended as NoLineFeed, Name, Format, Put};
 
-use book::Unput;
-use code::{UnknownFormat, UnknownName};
+use book::EncodeError;
+use isa::{UnknownFormat, UnknownName};
 use text::Unended;
 use thiserror::Error;
 
@@ -26,7 +26,7 @@ pub enum Fault {
     #[error("not a number, or out of range")]
     Number,
     #[error("{0}")]
-    Put(Unput),
+    Put(EncodeError),
 }
 
 // The first fault of a listing, with the number of its line. A book's, a listing's and a job's refusal have a type each, not one over
@@ -63,10 +63,10 @@ impl From<UnknownFormat> for Fault {
     }
 }
 
-impl From<Unput> for Fault {
+impl From<EncodeError> for Fault {
     ghost from_gives = { λ unput fault. fault ≡ Put unput };
 
-    fn from(unput: Unput) -> Fault {
+    fn from(unput: EncodeError) -> Fault {
         Fault::Put(unput)
     }
 }

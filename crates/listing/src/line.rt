@@ -7,7 +7,7 @@ use crate::fault::Fault;
 use crate::number::{address, signed};
 use crate::tokens::{before_comment, next_word, one_word, three_words};
 use book::Book;
-use code::{Format, Name};
+use isa::{Format, Name};
 use text::hex_word;
 
 // The word of an instruction under the book.

@@ -1,7 +1,7 @@
 -- The operand's address by format, M and D, for an operand of k bytes.
 use Rattle.std.specs.Prelude.{ℕ, cond, ◌==◌}
-use Rattle.code.specs.declared.format.Format.{Format}
-use Rattle.code.specs.declared.format.Format.TheVariants.{A1, A2, A3, A4, A5, L, B}
+use Rattle.isa.specs.declared.format.Format.{Format}
+use Rattle.isa.specs.declared.format.Format.TheVariants.{A1, A2, A3, A4, A5, L, B}
 use Rattle.access.specs.Access.{Item, half, size}
 use Rattle.access.specs.declared.stop.Cause.TheVariants.{Undefined}
 use Rattle.access.specs.declared.stop.Place.TheVariants.{Pointer, Operand}

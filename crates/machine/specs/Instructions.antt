@@ -1,12 +1,12 @@
 -- What each instruction does, s being at the next one.
 use Rattle.std.specs.Prelude.{ℕ, ◌+◌, ◌%◌, Bool, true, false, cond, not, ◌||◌, List, Result, ◌==◌, bit_and, nat_le, nat_lt}
 use Rattle.std.specs.Int.{w16, w32}
-use Rattle.code.specs.declared.name.Name.{Name}
-use Rattle.code.specs.declared.name.Name.TheVariants.{Ldb, Ld, Ldw, Ldx, Stb, St, Stw, Stx, Ad, Adw, Sb, Sbw, Adx, Sbx, Cp, Cpw, Cpx, Nw, Nx, Mx, Dx, Ldy, Sty, Ady, Sby, Ldz, Stz, Adz, Sbz, Bi, Bli, Ldl, Adl, Sbl, Cpl, Nl, Ml, Bitx, Bz, Bnz, Bn, Bnn, Bca, Bof, B, Bl, Mbs, Cpbs, Trbs, Scbs, Mhs, Rk, Hrk, Sfn, Sim, Sfm, Bitl}
+use Rattle.isa.specs.declared.name.Name.{Name}
+use Rattle.isa.specs.declared.name.Name.TheVariants.{Ldb, Ld, Ldw, Ldx, Stb, St, Stw, Stx, Ad, Adw, Sb, Sbw, Adx, Sbx, Cp, Cpw, Cpx, Nw, Nx, Mx, Dx, Ldy, Sty, Ady, Sby, Ldz, Stz, Adz, Sbz, Bi, Bli, Ldl, Adl, Sbl, Cpl, Nl, Ml, Bitx, Bz, Bnz, Bn, Bnn, Bca, Bof, B, Bl, Mbs, Cpbs, Trbs, Scbs, Mhs, Rk, Hrk, Sfn, Sim, Sfm, Bitl}
 use Rattle.word.specs.Arithmetic.{sum, difference, product, quotient}
 use Rattle.word.specs.Bytes.{extended}
 use Rattle.access.specs.Access.{Item, byte, full, half, sight, size}
-use Rattle.access.specs.declared.bay.Bay.{Bay}
+use Rattle.access.specs.declared.rights.Rights.{Rights}
 use Rattle.access.specs.declared.stop.Cause.{Cause}
 use Rattle.access.specs.declared.stop.Cause.TheVariants.{Halt}
 use Rattle.machine.specs.Act.{Act, done, store, fail, perform, ◌>>=◌}
@@ -158,6 +158,6 @@ executed Trbs t r = string translated r
 executed Cpbs t r = string compared r
 executed Scbs t r = string scanned r
 
--- what an instruction does over a bay and the store's bytes
-abbrev pub does : Name → Mode → Registers → Bay → List ℕ → Result Effect Cause
-does n t r bay bs = perform (sight bay bs) (executed n t r)
+-- what an instruction does over a rights and the store's bytes
+abbrev pub does : Name → Mode → Registers → Rights → List ℕ → Result Effect Cause
+does n t r rights bs = perform (sight rights bs) (executed n t r)

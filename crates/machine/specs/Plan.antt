@@ -1,4 +1,4 @@
--- A step as a plan: what it asks of its bay, in order, what it makes of each answer, and its one ending.
+-- A step as a plan: what it asks of its rights, in order, what it makes of each answer, and its one ending.
 use Rattle.std.specs.Prelude.{ℕ, Ok, Err, Result}
 use Rattle.access.specs.Access.{Item, bind, half, item_read, Sight}
 use Rattle.access.specs.declared.stop.Cause.{Cause}

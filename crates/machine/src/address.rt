@@ -7,7 +7,7 @@ ghost use Rattle.std.specs.Prelude.{◌≡◌};
 use crate::mode::Mode;
 use crate::registers::Registers;
 use access::{Cause, Denial, Item, Place, View};
-use code::Format;
+use isa::Format;
 use store::Store;
 
 // A denial goes up with the place where it was met.

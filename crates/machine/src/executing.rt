@@ -14,7 +14,7 @@ use crate::stores::*;
 use crate::strings::{compare, move_byte, move_half, move_nearer, scan, translate};
 use crate::sums::*;
 use access::{Cause, View};
-use code::Name;
+use isa::Name;
 use store::Store;
 use word::arithmetic::{add, multiply, subtract};
 
@@ -63,8 +63,8 @@ pub fn execute<S: Store>(
     registers: &mut Registers,
     view: &View<S>,
 ) -> Result<Option<Pending>, Cause>
-    ensures answers { result ≡ to_write (does name mode (advanced registers.old) view.now.bay view.now.bytes) }
-    ensures registers { registers.new ≡ settled registers.old (does name mode (advanced registers.old) view.now.bay view.now.bytes) }
+    ensures answers { result ≡ to_write (does name mode (advanced registers.old) view.now.rights view.now.bytes) }
+    ensures registers { registers.new ≡ settled registers.old (does name mode (advanced registers.old) view.now.rights view.now.bytes) }
 {
     let d = mode.d;
     let literal = u32::from(d);

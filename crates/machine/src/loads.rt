@@ -1,4 +1,4 @@
-ghost use Rattle.code.specs.declared.name.Name.TheVariants.{Ldb, Ld, Ldw, Ldx};
+ghost use Rattle.isa.specs.declared.name.Name.TheVariants.{Ldb, Ld, Ldw, Ldx};
 ghost use Rattle.machine.specs.Act.{settled, to_write};
 ghost use Rattle.machine.specs.Instructions.{does};
 ghost use Rattle.machine.specs.Registers.{advanced};
@@ -17,8 +17,8 @@ pub(crate) fn ldb<S: Store>(
     registers: &mut Registers,
     view: &View<S>,
 ) -> Result<Option<Pending>, Cause>
-    ensures answers { result ≡ to_write (does Ldb mode (advanced registers.old) view.now.bay view.now.bytes) }
-    ensures registers { registers.new ≡ settled registers.old (does Ldb mode (advanced registers.old) view.now.bay view.now.bytes) }
+    ensures answers { result ≡ to_write (does Ldb mode (advanced registers.old) view.now.rights view.now.bytes) }
+    ensures registers { registers.new ≡ settled registers.old (does Ldb mode (advanced registers.old) view.now.rights view.now.bytes) }
 {
     let v: u8 = operand(mode, registers, view)?;
     registers.advance();
@@ -31,8 +31,8 @@ pub(crate) fn ld<S: Store>(
     registers: &mut Registers,
     view: &View<S>,
 ) -> Result<Option<Pending>, Cause>
-    ensures answers { result ≡ to_write (does Ld mode (advanced registers.old) view.now.bay view.now.bytes) }
-    ensures registers { registers.new ≡ settled registers.old (does Ld mode (advanced registers.old) view.now.bay view.now.bytes) }
+    ensures answers { result ≡ to_write (does Ld mode (advanced registers.old) view.now.rights view.now.bytes) }
+    ensures registers { registers.new ≡ settled registers.old (does Ld mode (advanced registers.old) view.now.rights view.now.bytes) }
 {
     let v: u16 = operand(mode, registers, view)?;
     registers.advance();
@@ -45,8 +45,8 @@ pub(crate) fn ldw<S: Store>(
     registers: &mut Registers,
     view: &View<S>,
 ) -> Result<Option<Pending>, Cause>
-    ensures answers { result ≡ to_write (does Ldw mode (advanced registers.old) view.now.bay view.now.bytes) }
-    ensures registers { registers.new ≡ settled registers.old (does Ldw mode (advanced registers.old) view.now.bay view.now.bytes) }
+    ensures answers { result ≡ to_write (does Ldw mode (advanced registers.old) view.now.rights view.now.bytes) }
+    ensures registers { registers.new ≡ settled registers.old (does Ldw mode (advanced registers.old) view.now.rights view.now.bytes) }
 {
     let v: u32 = operand(mode, registers, view)?;
     registers.advance();
@@ -59,8 +59,8 @@ pub(crate) fn ldx<S: Store>(
     registers: &mut Registers,
     view: &View<S>,
 ) -> Result<Option<Pending>, Cause>
-    ensures answers { result ≡ to_write (does Ldx mode (advanced registers.old) view.now.bay view.now.bytes) }
-    ensures registers { registers.new ≡ settled registers.old (does Ldx mode (advanced registers.old) view.now.bay view.now.bytes) }
+    ensures answers { result ≡ to_write (does Ldx mode (advanced registers.old) view.now.rights view.now.bytes) }
+    ensures registers { registers.new ≡ settled registers.old (does Ldx mode (advanced registers.old) view.now.rights view.now.bytes) }
 {
     let v: u16 = operand(mode, registers, view)?;
     registers.advance();

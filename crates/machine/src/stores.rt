@@ -1,5 +1,5 @@
 ghost use Rattle.access.specs.Access.{bind, sight_of, size};
-ghost use Rattle.code.specs.declared.name.Name.TheVariants.{St, Stb, Stw, Stx, Sty, Stz};
+ghost use Rattle.isa.specs.declared.name.Name.TheVariants.{St, Stb, Stw, Stx, Sty, Stz};
 ghost use Rattle.machine.specs.Act.{claimed, settled, to_write};
 ghost use Rattle.machine.specs.Address.{formed};
 ghost use Rattle.machine.specs.Instructions.{does, stored_byte, stored_full, stored_half, stored_x};
@@ -84,8 +84,8 @@ pub(crate) fn stb<S: Store>(
     registers: &mut Registers,
     view: &View<S>,
 ) -> Result<Option<Pending>, Cause>
-    ensures answers { result ≡ to_write (does Stb mode (advanced registers.old) view.now.bay view.now.bytes) }
-    ensures registers { registers.new ≡ settled registers.old (does Stb mode (advanced registers.old) view.now.bay view.now.bytes) }
+    ensures answers { result ≡ to_write (does Stb mode (advanced registers.old) view.now.rights view.now.bytes) }
+    ensures registers { registers.new ≡ settled registers.old (does Stb mode (advanced registers.old) view.now.rights view.now.bytes) }
 {
     let pending = claim_operand(mode, registers, registers.low_byte(), view)?;
     registers.advance();
@@ -98,8 +98,8 @@ pub(crate) fn st<S: Store>(
     registers: &mut Registers,
     view: &View<S>,
 ) -> Result<Option<Pending>, Cause>
-    ensures answers { result ≡ to_write (does St mode (advanced registers.old) view.now.bay view.now.bytes) }
-    ensures registers { registers.new ≡ settled registers.old (does St mode (advanced registers.old) view.now.bay view.now.bytes) }
+    ensures answers { result ≡ to_write (does St mode (advanced registers.old) view.now.rights view.now.bytes) }
+    ensures registers { registers.new ≡ settled registers.old (does St mode (advanced registers.old) view.now.rights view.now.bytes) }
 {
     let pending = claim_operand(mode, registers, registers.low_half(), view)?;
     registers.advance();
@@ -112,8 +112,8 @@ pub(crate) fn stw<S: Store>(
     registers: &mut Registers,
     view: &View<S>,
 ) -> Result<Option<Pending>, Cause>
-    ensures answers { result ≡ to_write (does Stw mode (advanced registers.old) view.now.bay view.now.bytes) }
-    ensures registers { registers.new ≡ settled registers.old (does Stw mode (advanced registers.old) view.now.bay view.now.bytes) }
+    ensures answers { result ≡ to_write (does Stw mode (advanced registers.old) view.now.rights view.now.bytes) }
+    ensures registers { registers.new ≡ settled registers.old (does Stw mode (advanced registers.old) view.now.rights view.now.bytes) }
 {
     let pending = claim_operand(mode, registers, registers.a, view)?;
     registers.advance();
@@ -126,8 +126,8 @@ pub(crate) fn stx<S: Store>(
     registers: &mut Registers,
     view: &View<S>,
 ) -> Result<Option<Pending>, Cause>
-    ensures answers { result ≡ to_write (does Stx mode (advanced registers.old) view.now.bay view.now.bytes) }
-    ensures registers { registers.new ≡ settled registers.old (does Stx mode (advanced registers.old) view.now.bay view.now.bytes) }
+    ensures answers { result ≡ to_write (does Stx mode (advanced registers.old) view.now.rights view.now.bytes) }
+    ensures registers { registers.new ≡ settled registers.old (does Stx mode (advanced registers.old) view.now.rights view.now.bytes) }
 {
     let pending = claim_operand(mode, registers, registers.x, view)?;
     registers.advance();
@@ -140,8 +140,8 @@ pub(crate) fn sty<S: Store>(
     registers: &mut Registers,
     view: &View<S>,
 ) -> Result<Option<Pending>, Cause>
-    ensures answers { result ≡ to_write (does Sty mode (advanced registers.old) view.now.bay view.now.bytes) }
-    ensures registers { registers.new ≡ settled registers.old (does Sty mode (advanced registers.old) view.now.bay view.now.bytes) }
+    ensures answers { result ≡ to_write (does Sty mode (advanced registers.old) view.now.rights view.now.bytes) }
+    ensures registers { registers.new ≡ settled registers.old (does Sty mode (advanced registers.old) view.now.rights view.now.bytes) }
 {
     let pending = claim_operand(mode, registers, registers.y, view)?;
     registers.advance();
@@ -153,8 +153,8 @@ pub(crate) fn stz<S: Store>(
     registers: &mut Registers,
     view: &View<S>,
 ) -> Result<Option<Pending>, Cause>
-    ensures answers { result ≡ to_write (does Stz mode (advanced registers.old) view.now.bay view.now.bytes) }
-    ensures registers { registers.new ≡ settled registers.old (does Stz mode (advanced registers.old) view.now.bay view.now.bytes) }
+    ensures answers { result ≡ to_write (does Stz mode (advanced registers.old) view.now.rights view.now.bytes) }
+    ensures registers { registers.new ≡ settled registers.old (does Stz mode (advanced registers.old) view.now.rights view.now.bytes) }
 {
     let pending = claim_operand(mode, registers, registers.z, view)?;
     registers.advance();

@@ -1,4 +1,4 @@
-ghost use Rattle.code.specs.declared.name.Name.TheVariants.{Ad, Adw, Adx, Sb, Sbw, Sbx, Cp, Cpw, Cpx};
+ghost use Rattle.isa.specs.declared.name.Name.TheVariants.{Ad, Adw, Adx, Sb, Sbw, Sbx, Cp, Cpw, Cpx};
 ghost use Rattle.machine.specs.Act.{settled, to_write};
 ghost use Rattle.machine.specs.Instructions.{does};
 ghost use Rattle.machine.specs.Registers.{advanced};
@@ -18,8 +18,8 @@ pub(crate) fn ad<S: Store>(
     registers: &mut Registers,
     view: &View<S>,
 ) -> Result<Option<Pending>, Cause>
-    ensures answers { result ≡ to_write (does Ad mode (advanced registers.old) view.now.bay view.now.bytes) }
-    ensures registers { registers.new ≡ settled registers.old (does Ad mode (advanced registers.old) view.now.bay view.now.bytes) }
+    ensures answers { result ≡ to_write (does Ad mode (advanced registers.old) view.now.rights view.now.bytes) }
+    ensures registers { registers.new ≡ settled registers.old (does Ad mode (advanced registers.old) view.now.rights view.now.bytes) }
 {
     let v: u16 = operand(mode, registers, view)?;
     registers.advance();
@@ -32,8 +32,8 @@ pub(crate) fn adw<S: Store>(
     registers: &mut Registers,
     view: &View<S>,
 ) -> Result<Option<Pending>, Cause>
-    ensures answers { result ≡ to_write (does Adw mode (advanced registers.old) view.now.bay view.now.bytes) }
-    ensures registers { registers.new ≡ settled registers.old (does Adw mode (advanced registers.old) view.now.bay view.now.bytes) }
+    ensures answers { result ≡ to_write (does Adw mode (advanced registers.old) view.now.rights view.now.bytes) }
+    ensures registers { registers.new ≡ settled registers.old (does Adw mode (advanced registers.old) view.now.rights view.now.bytes) }
 {
     let v: u32 = operand(mode, registers, view)?;
     registers.advance();
@@ -46,8 +46,8 @@ pub(crate) fn adx<S: Store>(
     registers: &mut Registers,
     view: &View<S>,
 ) -> Result<Option<Pending>, Cause>
-    ensures answers { result ≡ to_write (does Adx mode (advanced registers.old) view.now.bay view.now.bytes) }
-    ensures registers { registers.new ≡ settled registers.old (does Adx mode (advanced registers.old) view.now.bay view.now.bytes) }
+    ensures answers { result ≡ to_write (does Adx mode (advanced registers.old) view.now.rights view.now.bytes) }
+    ensures registers { registers.new ≡ settled registers.old (does Adx mode (advanced registers.old) view.now.rights view.now.bytes) }
 {
     let v: u16 = operand(mode, registers, view)?;
     registers.advance();
@@ -60,8 +60,8 @@ pub(crate) fn sb<S: Store>(
     registers: &mut Registers,
     view: &View<S>,
 ) -> Result<Option<Pending>, Cause>
-    ensures answers { result ≡ to_write (does Sb mode (advanced registers.old) view.now.bay view.now.bytes) }
-    ensures registers { registers.new ≡ settled registers.old (does Sb mode (advanced registers.old) view.now.bay view.now.bytes) }
+    ensures answers { result ≡ to_write (does Sb mode (advanced registers.old) view.now.rights view.now.bytes) }
+    ensures registers { registers.new ≡ settled registers.old (does Sb mode (advanced registers.old) view.now.rights view.now.bytes) }
 {
     let v: u16 = operand(mode, registers, view)?;
     registers.advance();
@@ -74,8 +74,8 @@ pub(crate) fn sbw<S: Store>(
     registers: &mut Registers,
     view: &View<S>,
 ) -> Result<Option<Pending>, Cause>
-    ensures answers { result ≡ to_write (does Sbw mode (advanced registers.old) view.now.bay view.now.bytes) }
-    ensures registers { registers.new ≡ settled registers.old (does Sbw mode (advanced registers.old) view.now.bay view.now.bytes) }
+    ensures answers { result ≡ to_write (does Sbw mode (advanced registers.old) view.now.rights view.now.bytes) }
+    ensures registers { registers.new ≡ settled registers.old (does Sbw mode (advanced registers.old) view.now.rights view.now.bytes) }
 {
     let v: u32 = operand(mode, registers, view)?;
     registers.advance();
@@ -88,8 +88,8 @@ pub(crate) fn sbx<S: Store>(
     registers: &mut Registers,
     view: &View<S>,
 ) -> Result<Option<Pending>, Cause>
-    ensures answers { result ≡ to_write (does Sbx mode (advanced registers.old) view.now.bay view.now.bytes) }
-    ensures registers { registers.new ≡ settled registers.old (does Sbx mode (advanced registers.old) view.now.bay view.now.bytes) }
+    ensures answers { result ≡ to_write (does Sbx mode (advanced registers.old) view.now.rights view.now.bytes) }
+    ensures registers { registers.new ≡ settled registers.old (does Sbx mode (advanced registers.old) view.now.rights view.now.bytes) }
 {
     let v: u16 = operand(mode, registers, view)?;
     registers.advance();
@@ -102,8 +102,8 @@ pub(crate) fn cp<S: Store>(
     registers: &mut Registers,
     view: &View<S>,
 ) -> Result<Option<Pending>, Cause>
-    ensures answers { result ≡ to_write (does Cp mode (advanced registers.old) view.now.bay view.now.bytes) }
-    ensures registers { registers.new ≡ settled registers.old (does Cp mode (advanced registers.old) view.now.bay view.now.bytes) }
+    ensures answers { result ≡ to_write (does Cp mode (advanced registers.old) view.now.rights view.now.bytes) }
+    ensures registers { registers.new ≡ settled registers.old (does Cp mode (advanced registers.old) view.now.rights view.now.bytes) }
 {
     let v: u16 = operand(mode, registers, view)?;
     registers.advance();
@@ -116,8 +116,8 @@ pub(crate) fn cpw<S: Store>(
     registers: &mut Registers,
     view: &View<S>,
 ) -> Result<Option<Pending>, Cause>
-    ensures answers { result ≡ to_write (does Cpw mode (advanced registers.old) view.now.bay view.now.bytes) }
-    ensures registers { registers.new ≡ settled registers.old (does Cpw mode (advanced registers.old) view.now.bay view.now.bytes) }
+    ensures answers { result ≡ to_write (does Cpw mode (advanced registers.old) view.now.rights view.now.bytes) }
+    ensures registers { registers.new ≡ settled registers.old (does Cpw mode (advanced registers.old) view.now.rights view.now.bytes) }
 {
     let v: u32 = operand(mode, registers, view)?;
     registers.advance();
@@ -130,8 +130,8 @@ pub(crate) fn cpx<S: Store>(
     registers: &mut Registers,
     view: &View<S>,
 ) -> Result<Option<Pending>, Cause>
-    ensures answers { result ≡ to_write (does Cpx mode (advanced registers.old) view.now.bay view.now.bytes) }
-    ensures registers { registers.new ≡ settled registers.old (does Cpx mode (advanced registers.old) view.now.bay view.now.bytes) }
+    ensures answers { result ≡ to_write (does Cpx mode (advanced registers.old) view.now.rights view.now.bytes) }
+    ensures registers { registers.new ≡ settled registers.old (does Cpx mode (advanced registers.old) view.now.rights view.now.bytes) }
 {
     let v: u16 = operand(mode, registers, view)?;
     registers.advance();

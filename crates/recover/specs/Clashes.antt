@@ -1,7 +1,7 @@
 -- Which of some jobs has a bay, and which a grant clashes with.
 use Rattle.std.specs.Prelude.{ℕ, Bool, List, Option, ◌==◌}
 use Rattle.std.specs.List.{find}
-use Rattle.access.specs.declared.bay.Grant.{Grant}
+use Rattle.access.specs.declared.rights.Grant.{Grant}
 use Rattle.bays.specs.Grants.{clashes_any}
 use Rattle.recover.specs.declared.institute.Institute.{Institute}
 
@@ -15,7 +15,7 @@ first_of_bay n is = find (has_bay n) is
 
 -- with a grant of its job
 abbrev pub clashes_with : Grant → Institute → Bool
-clashes_with g i = clashes_any g i.job.bay.grants
+clashes_with g i = clashes_any g i.job.rights.grants
 
 -- the first of them
 abbrev pub first_clash : Grant → List Institute → Option Institute

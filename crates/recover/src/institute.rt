@@ -1,5 +1,5 @@
 use crate::report::Tally;
-use inputs::{Failure, parse_job, read_records, refuse_existing};
+use cli::{Failure, parse_job, read_records, refuse_existing};
 use job::Job;
 
 // One institute's job, with its records, and what came of them so far.

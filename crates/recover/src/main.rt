@@ -8,7 +8,7 @@ mod report;
 mod rotation;
 mod work;
 
-use inputs::ended;
+use cli::ended;
 use std::process::ExitCode;
 use work::recover;
 

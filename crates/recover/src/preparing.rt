@@ -5,7 +5,7 @@ ghost use Rattle.std.specs.Prelude.{◌≡◌};
 use crate::institute::Institute;
 use access::{Grant, Kind};
 use bays::{Refusal, clash_with_any};
-use inputs::{Failure, Fault};
+use cli::{Failure, Fault};
 use session::{Deed, Reply, Request, Session};
 use std::alloc::{AllocError, Global};
 use store::Store;
@@ -19,12 +19,12 @@ fn word(kind: Kind) -> &'static str {
 
 // Serves a request of a bay, and tells whether it was refused.
 fn serve<S: Store + Drop>(
-    heap: Global,
+    alloc: Global,
     session: &mut Session<S>,
     bay: u8,
     deed: Deed,
 ) -> Result<Option<Refusal>, AllocError> {
-    match session.serve(heap, &Request { bay, deed })? {
+    match session.serve(alloc, &Request { bay, deed })? {
         Reply::Refused(refusal) => Ok(Some(refusal)),
         _ => Ok(None),
     }
@@ -41,7 +41,7 @@ fn of_bay<'a, 'b>(institutes: &'a [Institute<'b>], bay: u8) -> Option<&'a Instit
 
 // A refused open; a bay that is taken is told with the earlier job that has it.
 fn refused_open(
-    heap: Global,
+    alloc: Global,
     earlier: &[Institute],
     bay: u8,
     refusal: Refusal,
@@ -49,24 +49,24 @@ fn refused_open(
     match of_bay(earlier, bay) {
         Some(other) if refusal == Refusal::Taken => Ok(Fault::Taken {
             bay,
-            job: String::from_str(heap, other.name)?,
+            job: String::from_str(alloc, other.name)?,
         }),
         _ => Ok(Fault::Opening { bay, refusal }),
     }
 }
 
 fn open<S: Store + Drop>(
-    heap: Global,
+    alloc: Global,
     session: &mut Session<S>,
     earlier: &[Institute],
     institute: &Institute,
 ) -> Result<(), Failure> {
     let bay = institute.job.number;
-    match serve(heap, session, bay, Deed::Open)? {
+    match serve(alloc, session, bay, Deed::Open)? {
         None => Ok(()),
         Some(refusal) => {
-            let fault = refused_open(heap, earlier, bay, refusal)?;
-            Err(Failure::of_file(heap, institute.name, fault))
+            let fault = refused_open(alloc, earlier, bay, refusal)?;
+            Err(Failure::of_file(alloc, institute.name, fault))
         }
     }
 }
@@ -75,12 +75,12 @@ fn open<S: Store + Drop>(
 fn clashing<'a, 'b>(institutes: &'a [Institute<'b>], grant: Grant) -> Option<&'a Institute<'b>>
     ensures { option_copied result ≡ first_clash grant institutes.now }
 {
-    institutes.iter().find(|institute| clash_with_any(grant, &institute.job.bay.grants))
+    institutes.iter().find(|institute| clash_with_any(grant, &institute.job.rights.grants))
 }
 
 // A refused grant; one that clashes is told with the bay that it clashes with, which is of one of the earlier jobs.
 fn refused_grant(
-    heap: Global,
+    alloc: Global,
     earlier: &[Institute],
     grant: Grant,
     refusal: Refusal,
@@ -93,7 +93,7 @@ fn refused_grant(
             first,
             last,
             bay: other.job.number,
-            job: String::from_str(heap, other.name)?,
+            job: String::from_str(alloc, other.name)?,
         }),
         _ => Ok(Fault::Granting {
             kind,
@@ -105,44 +105,44 @@ fn refused_grant(
 }
 
 fn add_grant<S: Store + Drop>(
-    heap: Global,
+    alloc: Global,
     session: &mut Session<S>,
     earlier: &[Institute],
     institute: &Institute,
     grant: Grant,
 ) -> Result<(), Failure> {
-    match serve(heap, session, institute.job.number, Deed::Grant(grant))? {
+    match serve(alloc, session, institute.job.number, Deed::Grant(grant))? {
         None => Ok(()),
         Some(refusal) => {
-            let fault = refused_grant(heap, earlier, grant, refusal)?;
-            Err(Failure::of_file(heap, institute.name, fault))
+            let fault = refused_grant(alloc, earlier, grant, refusal)?;
+            Err(Failure::of_file(alloc, institute.name, fault))
         }
     }
 }
 
 // Opens the bay of a job, gives it its grants, and seals it; where that is refused the job is named.
 fn prepare<S: Store + Drop>(
-    heap: Global,
+    alloc: Global,
     session: &mut Session<S>,
     earlier: &[Institute],
     institute: &Institute,
 ) -> Result<(), Failure> {
-    open(heap, session, earlier, institute)?;
-    for grant in institute.job.bay.grants.iter().flatten() {
-        add_grant(heap, session, earlier, institute, *grant)?;
+    open(alloc, session, earlier, institute)?;
+    for grant in institute.job.rights.grants.iter().flatten() {
+        add_grant(alloc, session, earlier, institute, *grant)?;
     }
-    let _sealed = serve(heap, session, institute.job.number, Deed::Seal)?;
+    let _sealed = serve(alloc, session, institute.job.number, Deed::Seal)?;
     Ok(())
 }
 
 // The bays of all jobs, in the order of the jobs.
 pub fn prepare_all<S: Store + Drop>(
-    heap: Global,
+    alloc: Global,
     session: &mut Session<S>,
     institutes: &[Institute],
 ) -> Result<(), Failure> {
     for (number, institute) in institutes.iter().enumerate() {
-        prepare(heap, session, &institutes[..number], institute)?;
+        prepare(alloc, session, &institutes[..number], institute)?;
     }
     Ok(())
 }
@@ -152,7 +152,7 @@ mod tests {
     use super::*;
     use crate::report::Tally;
     use book::Book;
-    use inputs::zeroed;
+    use cli::zeroed;
     use job::read_job;
     use std::process::Abort;
     use std::test::Fail;
@@ -170,7 +170,7 @@ mod tests {
 
     fn institute<'a>(
         rt: &impl Abort,
-        heap: Global,
+        alloc: Global,
         name: &'a str,
         text: &'a [u8],
     ) -> Institute<'a> {
@@ -181,8 +181,8 @@ mod tests {
             name,
             tally: Tally::new(job.registers),
             job,
-            records: Vec::new(heap),
-            results: Vec::new(heap),
+            records: Vec::new(alloc),
+            results: Vec::new(alloc),
         }
     }
 
@@ -190,15 +190,15 @@ mod tests {
     fn a_grant_is_told_with_the_bay_that_it_clashes_with(rt: HostRuntime) -> Result<(), Fail> {
         let heap = rt.alloc();
         let institutes = [
-            institute(&rt, heap, "a.job", FIRST),
-            institute(&rt, heap, "b.job", SECOND),
-            institute(&rt, heap, "c.job", THIRD),
+            institute(&rt, alloc, "a.job", FIRST),
+            institute(&rt, alloc, "b.job", SECOND),
+            institute(&rt, alloc, "c.job", THIRD),
         ];
-        let mut session = Session::new(Owned::new(zeroed(heap, 65536)?), Book::new());
-        let Err(failure) = prepare_all(heap, &mut session, &institutes) else {
+        let mut session = Session::new(Owned::new(zeroed(alloc, 65536)?), Book::new());
+        let Err(failure) = prepare_all(alloc, &mut session, &institutes) else {
             panic!(rt; "a clash");
         };
-        let told = failure.to_string(heap)?;
+        let told = failure.to_string(alloc)?;
         assert_eq!(rt;
             told.as_str(),
             "c.job: grant write 299 400 is refused with 6: it clashes with a grant of bay 5 (b.job)"
@@ -210,15 +210,15 @@ mod tests {
     fn a_bay_that_is_taken_is_told_with_the_job_that_has_it(rt: HostRuntime) -> Result<(), Fail> {
         let heap = rt.alloc();
         let institutes = [
-            institute(&rt, heap, "a.job", FIRST),
-            institute(&rt, heap, "b.job", SECOND),
-            institute(&rt, heap, "c.job", SECOND),
+            institute(&rt, alloc, "a.job", FIRST),
+            institute(&rt, alloc, "b.job", SECOND),
+            institute(&rt, alloc, "c.job", SECOND),
         ];
-        let mut session = Session::new(Owned::new(zeroed(heap, 65536)?), Book::new());
-        let Err(failure) = prepare_all(heap, &mut session, &institutes) else {
+        let mut session = Session::new(Owned::new(zeroed(alloc, 65536)?), Book::new());
+        let Err(failure) = prepare_all(alloc, &mut session, &institutes) else {
             panic!(rt; "a bay that is taken");
         };
-        let told = failure.to_string(heap)?;
+        let told = failure.to_string(alloc)?;
         assert_eq!(rt;
             told.as_str(),
             "c.job: open of bay 5 is refused with 3: the bay is taken by an earlier job (b.job)"

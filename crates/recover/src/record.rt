@@ -8,14 +8,14 @@ use store::Store;
 
 // The calls for a record: it is loaded, registers are set, turns are taken, and what they left is looked at and copied. A turn after a
 // stop takes no step, so all turns are asked for.
-fn requests(heap: Global, job: &Job, counts: &[u8]) -> Result<Vec<Request>, AllocError>
+fn requests(alloc: Global, job: &Job, counts: &[u8]) -> Result<Vec<Request>, AllocError>
     ensures { IfOk result (λ v. map asked v.items ≡ record_asks job.now counts.now) }
 {
     let bay = job.number;
-    let mut requests = vec![in heap;
+    let mut requests = vec![in alloc;
         Request {
             bay,
-            deed: Deed::Load(job.input.address, counts.to_vec(heap)?)
+            deed: Deed::Load(job.input.address, counts.to_vec(alloc)?)
         },
         Request {
             bay,
@@ -55,7 +55,7 @@ fn note(ran: &mut Ran, results: &mut Vec<u8>, reply: &Reply) -> Result<(), Alloc
 
 // Runs the job on a record in its bay; the output goes to the end of `results`.
 pub fn run_record<S: Store + Drop>(
-    heap: Global,
+    alloc: Global,
     session: &mut Session<S>,
     job: &Job,
     counts: &[u8],
@@ -66,8 +66,8 @@ pub fn run_record<S: Store + Drop>(
         registers: job.registers,
         stop: None,
     };
-    let requests = requests(heap, job, counts)?;
-    for reply in &session.serve_all(heap, &requests)? {
+    let requests = requests(alloc, job, counts)?;
+    for reply in &session.serve_all(alloc, &requests)? {
         note(&mut ran, results, reply)?;
     }
     Ok(ran)

@@ -1,4 +1,4 @@
-use inputs::halted;
+use cli::halted;
 use job::Ran;
 use machine::Registers;
 use std::{fmt, io};

@@ -1,6 +1,6 @@
 use crate::institute::{Institute, record};
 use crate::record::run_record;
-use inputs::Failure;
+use cli::Failure;
 use session::Session;
 use store::Store;
 

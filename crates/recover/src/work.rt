@@ -1,7 +1,7 @@
 use crate::institute::Institute;
 use crate::preparing::prepare_all;
 use crate::rotation::run_all;
-use inputs::{Failure, Fault, read_book, read_file, read_image, words, write_new, zeroed};
+use cli::{Failure, Fault, read_book, read_file, read_image, words, write_new, zeroed};
 use session::Session;
 use std::alloc::AllocError;
 use std::io;

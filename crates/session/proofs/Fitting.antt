@@ -5,7 +5,7 @@ use Rattle.std.proofs.lemmas.Bool.{eq-eqb, eqb-true}
 use Rattle.std.proofs.lemmas.Bool.Decides.{nat_tests}
 use Rattle.bays.specs.Bays.{bay_at, free, put_bay}
 use Rattle.bays.specs.Stages.{at_stage, is_free}
-use Rattle.bays.specs.declared.record.BayRecord.{BayRecord}
+use Rattle.bays.specs.declared.bay.Bay.{Bay}
 use Rattle.bays.specs.declared.refusal.Refusal.{Refusal}
 use Rattle.bays.specs.declared.stage.Stage.{Stage}
 use Rattle.bays.specs.declared.stage.Stage.TheVariants as stage
@@ -34,34 +34,34 @@ both : (a b : Bool) → a && b ≡ true → (a ≡ true) × (b ≡ true)
 both true b e = (refl, e)
 both false b e = cc
 
-pub as_fact : (l : List BayRecord) (n : ℕ) (s : Slot) → fits l n s ≡ true → Fits l n s
+pub as_fact : (l : List Bay) (n : ℕ) (s : Slot) → fits l n s ≡ true → Fits l n s
 as_fact l n Empty e = free_is (stage_of l n) e
 as_fact l n (Preparing p) e = let b = both (eqb p.bay n) (at_stage stage.Preparing (stage_of l n)) e in (eqb-true p.bay n b.0, at_is stage.Preparing (stage_of l n) b.1)
 as_fact l n (Sealed p) e = let b = both (eqb p.bay n) (at_stage stage.Sealed (stage_of l n)) e in (eqb-true p.bay n b.0, at_is stage.Sealed (stage_of l n) b.1)
 
-pub as_test : (l : List BayRecord) (n : ℕ) (s : Slot) → Fits l n s → fits l n s ≡ true
+pub as_test : (l : List Bay) (n : ℕ) (s : Slot) → Fits l n s → fits l n s ≡ true
 as_test l n Empty f = ap is_free f
 as_test l n (Preparing p) f = (λ i. eqb (f.0 i) n && at_stage stage.Preparing (f.1 i)) ∙ ap (λ b. b && true) (eq-eqb n n refl)
 as_test l n (Sealed p) f = (λ i. eqb (f.0 i) n && at_stage stage.Sealed (f.1 i)) ∙ ap (λ b. b && true) (eq-eqb n n refl)
 
 -- a slot that fits a free bay is empty
-pub emptied : (l : List BayRecord) (n : ℕ) (s : Slot) → Fits l n s → stage_of l n ≡ None → s ≡ Empty
+pub emptied : (l : List Bay) (n : ℕ) (s : Slot) → Fits l n s → stage_of l n ≡ None → s ≡ Empty
 emptied l n Empty f e = refl
 emptied l n (Preparing p) f e = let z = f.1 in cc
 emptied l n (Sealed p) f e = let z = f.1 in cc
 
-same_fits : (l m : List BayRecord) (n : ℕ) (s : Slot) → stage_of m n ≡ stage_of l n → fits m n s ≡ fits l n s
+same_fits : (l m : List Bay) (n : ℕ) (s : Slot) → stage_of m n ≡ stage_of l n → fits m n s ≡ fits l n s
 same_fits l m n Empty e = ap is_free e
 same_fits l m n (Preparing p) e = ap (λ (o : Option Stage). eqb p.bay n && at_stage stage.Preparing o) e
 same_fits l m n (Sealed p) e = ap (λ (o : Option Stage). eqb p.bay n && at_stage stage.Sealed o) e
 
-pub at_place : (l : List BayRecord) (n : ℕ) (ss : List Slot) (i : ℕ) → fits_from l n ss ≡ true → i < length ss → fits l (n + i) (get_or ss i Empty) ≡ true
+pub at_place : (l : List Bay) (n : ℕ) (ss : List Slot) (i : ℕ) → fits_from l n ss ≡ true → i < length ss → fits l (n + i) (get_or ss i Empty) ≡ true
 unfolding fits_from
 at_place l n [] i e h = absurd (omega arith)
 at_place l n (s ∷ ss) zero e h = subst (λ (k : ℕ). fits l k s ≡ true) (omega arith) (both (fits l n s) (fits_from l (suc n) ss) e).0
 at_place l n (s ∷ ss) (suc i) e h = subst (λ (k : ℕ). fits l k (get_or ss i Empty) ≡ true) (omega arith) (at_place l (suc n) ss i (both (fits l n s) (fits_from l (suc n) ss) e).1 (omega arith))
 
-same_from : (l m : List BayRecord) (n : ℕ) (ss : List Slot) → fits_from l n ss ≡ true → ((j : ℕ) → n ≤ j → stage_of m j ≡ stage_of l j) → fits_from m n ss ≡ true
+same_from : (l m : List Bay) (n : ℕ) (ss : List Slot) → fits_from l n ss ≡ true → ((j : ℕ) → n ≤ j → stage_of m j ≡ stage_of l j) → fits_from m n ss ≡ true
 unfolding fits_from
 same_from l m n [] e k = refl
 same_from l m n (s ∷ ss) e k =
@@ -71,7 +71,7 @@ same_from l m n (s ∷ ss) e k =
     λ i. p i && q i
 
 -- one slot is put anew, and every bay but its own is at the stage it was at
-pub refits : (l m : List BayRecord) (n : ℕ) (ss : List Slot) (i : ℕ) (t : Slot) → fits_from l n ss ≡ true → ((j : ℕ) → j ≢ n + i → stage_of m j ≡ stage_of l j) → fits m (n + i) t ≡ true → fits_from m n (set ss i t) ≡ true
+pub refits : (l m : List Bay) (n : ℕ) (ss : List Slot) (i : ℕ) (t : Slot) → fits_from l n ss ≡ true → ((j : ℕ) → j ≢ n + i → stage_of m j ≡ stage_of l j) → fits m (n + i) t ≡ true → fits_from m n (set ss i t) ≡ true
 unfolding fits_from
 refits l m n [] i t e k f = refl
 refits l m n (s ∷ ss) zero t e k f =
@@ -90,7 +90,7 @@ set_again [] i x y = refl
 set_again (a ∷ l) zero x y = refl
 set_again (a ∷ l) (suc i) x y = ap (λ z. a ∷ z) (set_again l i x y)
 
-length_put : (l : List BayRecord) (n : ℕ) (b : BayRecord) → length (put_bay l n b) ≡ length l
+length_put : (l : List Bay) (n : ℕ) (b : Bay) → length (put_bay l n b) ≡ length l
 unfolding put_bay
 length_put l zero b = refl
 length_put l (suc k) b = length-set l k b
@@ -102,7 +102,7 @@ pub record Keeps (n : ℕ) (H K : Hall) : Type 0 where
 
 length_own : (n : ℕ) (s : Stage) (i : Own) (H : Hall) → length (apply (call n s (own i)) H).hall.bays ≡ length H.bays
 length_own n s i H =
-    let e : Outcome = outcome i H.book (bay_at H.bays n).bay (program_of (bay_at H.bays n)) H.bytes in
+    let e : Outcome = outcome i H.book (bay_at H.bays n).rights (program_of (bay_at H.bays n)) H.bytes in
     by_test (λ (t : Told). length t.hall.bays ≡ length H.bays) (at_stage (stage_for i s) (bay_at H.bays n).stage) (settle_own n H e) (record { answer = refused 2; hall = H })
     (λ t. of_changed e.program)
     (λ t. refl)
@@ -128,11 +128,11 @@ made_keeps (Ok r) n c H K m = subst (Keeps n H) (sym m.1) (served_keeps (fitting
 made_keeps (Err e) n c H K m = subst (Keeps n H) (sym m) (record { count = refl; others = λ j d. refl })
 
 -- a number that no bay has
-pub beyond : (l : List BayRecord) (n : ℕ) → length l ≡ 8 → (n < 1) ⊎ (8 < n) → stage_of l n ≡ None
+pub beyond : (l : List Bay) (n : ℕ) → length l ≡ 8 → (n < 1) ⊎ (8 < n) → stage_of l n ≡ None
 unfolding bay_at
 beyond l zero e h = refl
 beyond l (suc k) e (inl h) = absurd (omega arith)
-beyond l (suc k) e (inr h) = ap (λ (b : BayRecord). b.stage) (get_or_past l k free (omega arith))
+beyond l (suc k) e (inr h) = ap (λ (b : Bay). b.stage) (get_or_past l k free (omega arith))
 
 outside : (n : ℕ) → (n < 1) ⊎ (8 < n) → leb 1 n && leb n 8 ≡ false
 outside n h = grind (arith, nat_tests)
@@ -152,13 +152,13 @@ pub unmade : {E : Type 0} (r : Result Reply E) (n : ℕ) (c : Act) (H K : Hall) 
 unmade (Ok r) n c H K h e m = m.1 ∙ unserved n c H h e
 unmade (Err x) n c H K h e m = m
 
-pub counted : (l : List BayRecord) (ss : List Slot) → all_fit l ss ≡ true → (length l ≡ 8) × ((length ss ≡ 8) × (fits_from l 1 ss ≡ true))
+pub counted : (l : List Bay) (ss : List Slot) → all_fit l ss ≡ true → (length l ≡ 8) × ((length ss ≡ 8) × (fits_from l 1 ss ≡ true))
 counted l ss e =
     let b = both (eqb (length l) 8 && eqb (length ss) 8) (fits_from l 1 ss) e in
     let k = both (eqb (length l) 8) (eqb (length ss) 8) b.0 in
     (eqb-true (length l) 8 k.0, (eqb-true (length ss) 8 k.1, b.1))
 
-pub fitted : (l : List BayRecord) (ss : List Slot) → length l ≡ 8 → length ss ≡ 8 → fits_from l 1 ss ≡ true → all_fit l ss ≡ true
+pub fitted : (l : List Bay) (ss : List Slot) → length l ≡ 8 → length ss ≡ 8 → fits_from l 1 ss ≡ true → all_fit l ss ≡ true
 fitted l ss a b f = λ i. (eq-eqb (length l) 8 a i && eq-eqb (length ss) 8 b i) && f i
 
 -- all slots fit after a request of a bay of the hall, whose slot was put anew

@@ -1,10 +1,10 @@
 -- What stage a bay has after a call.
 use Rattle.std.proofs.Common.{◌≡◌, ℕ, zero, suc, ◌≢◌, ◌&&◌, T, leb, List, [], ◌∷◌, length, get_or, set, Some, None, Option, sym, refl, ap, ◌∙◌, arith, leb→le}
 use Rattle.std.proofs.lemmas.List.{get_or-set_same, length-set}
-use Rattle.access.specs.declared.bay.Grant.{Grant}
+use Rattle.access.specs.declared.rights.Grant.{Grant}
 use Rattle.bays.specs.Bays.{bay_at, free, put_bay}
 use Rattle.bays.specs.Stages.{at_stage, is_free}
-use Rattle.bays.specs.declared.record.BayRecord.{BayRecord}
+use Rattle.bays.specs.declared.bay.Bay.{Bay}
 use Rattle.bays.specs.declared.refusal.Refusal.{Refusal}
 use Rattle.bays.specs.declared.stage.Stage.{Stage}
 use Rattle.bays.specs.declared.stage.Stage.TheVariants as stage
@@ -13,16 +13,16 @@ use Rattle.history.proofs.Entries.{Entry, changed_entries, get_put_other, same_e
 use Rattle.history.specs.Calls.{Act, Call, Own, Shared, call, close, done, grant, open_bay, own, refused, seal, shared}
 use Rattle.history.specs.Hall.{Hall, Outcome, Told, apply, bay_after, outcome, program_of, settle, settle_own, stage_for, verdict, with_stage}
 
-abbrev pub stage_of : List BayRecord → ℕ → Option Stage
+abbrev pub stage_of : List Bay → ℕ → Option Stage
 stage_of l n = (bay_at l n).stage
 
-there : (x : BayRecord) (l : List BayRecord) (k : ℕ) (s : Stage) → (get_or l k free).stage ≡ Some s → get_or (set l k x) k free ≡ x
+there : (x : Bay) (l : List Bay) (k : ℕ) (s : Stage) → (get_or l k free).stage ≡ Some s → get_or (set l k x) k free ≡ x
 there x [] k s e = cc
 there x (b ∷ l) zero s e = refl
 there x (b ∷ l) (suc k) s e = there x l k s e
 
 -- a bay with a stage is one of the list, and what is put there is found there
-put_there : (x : BayRecord) (l : List BayRecord) (n : ℕ) (s : Stage) → stage_of l n ≡ Some s → bay_at (put_bay l n x) n ≡ x
+put_there : (x : Bay) (l : List Bay) (n : ℕ) (s : Stage) → stage_of l n ≡ Some s → bay_at (put_bay l n x) n ≡ x
 unfolding bay_at put_bay
 put_there x l zero s e = cc
 put_there x l (suc k) s e = there x l k s e
@@ -30,42 +30,42 @@ put_there x l (suc k) s e = there x l k s e
 -- a load, set, turn, look or copy leaves every bay at its stage
 pub own_keeps : (n : ℕ) (s : Stage) (i : Own) (H : Hall) (j : ℕ) → stage_of (apply (call n s (own i)) H).hall.bays j ≡ stage_of H.bays j
 own_keeps n s i H j =
-    let e : Outcome = outcome i H.book (bay_at H.bays n).bay (program_of (bay_at H.bays n)) H.bytes in
+    let e : Outcome = outcome i H.book (bay_at H.bays n).rights (program_of (bay_at H.bays n)) H.bytes in
     by_test (λ (t : Told). stage_of t.hall.bays j ≡ stage_of H.bays j) (at_stage (stage_for i s) (bay_at H.bays n).stage) (settle_own n H e) (record { answer = refused 2; hall = H })
     (λ t. ap (λ (x : Entry). x.stage) (same_entry _ H.bays (changed_entries H.bays n e.program) j))
     (λ t. refl)
 
 -- the stage of a bay that a shared call acts on: that of the bay it leaves, or the same where the call is refused
 settled : (n : ℕ) (s : Stage) (o : Shared) (H : Hall) (r : Option Refusal) (held : Stage) → stage_of H.bays n ≡ Some held → (b : Option Stage) → (r ≡ None → (bay_after o (bay_at H.bays n)).stage ≡ b) → ((e : Refusal) → r ≡ Some e → Some held ≡ b) → stage_of (settle r n o H).hall.bays n ≡ b
-settled n s o H None held g b f h = ap (λ (x : BayRecord). x.stage) (put_there (bay_after o (bay_at H.bays n)) H.bays n held g) ∙ f refl
+settled n s o H None held g b f h = ap (λ (x : Bay). x.stage) (put_there (bay_after o (bay_at H.bays n)) H.bays n held g) ∙ f refl
 settled n s o H (Some e) held g b f h = g ∙ h e refl
 
 pub grant_keeps : (n : ℕ) (g : Grant) (H : Hall) → stage_of H.bays n ≡ Some stage.Preparing → stage_of (apply (call n stage.Preparing (shared (grant g))) H).hall.bays n ≡ Some stage.Preparing
 grant_keeps n g H e = settled n stage.Preparing (grant g) H (verdict n stage.Preparing (grant g) H.bays) stage.Preparing e (Some stage.Preparing) (λ z. e) (λ x z. refl)
 
 pub sealed : (n : ℕ) (H : Hall) → stage_of H.bays n ≡ Some stage.Preparing → stage_of (apply (call n stage.Preparing (shared seal)) H).hall.bays n ≡ Some stage.Sealed
-sealed n H e = rw e (ap (λ (x : BayRecord). x.stage) (put_there (with_stage (bay_at H.bays n) stage.Sealed) H.bays n stage.Preparing e))
+sealed n H e = rw e (ap (λ (x : Bay). x.stage) (put_there (with_stage (bay_at H.bays n) stage.Sealed) H.bays n stage.Preparing e))
 
 pub closed : (n : ℕ) (s : Stage) (H : Hall) → stage_of H.bays n ≡ Some s → stage_of (apply (call n s (shared close)) H).hall.bays n ≡ None
 closed n s H e = by_stage s e
   where
     by_stage : (s : Stage) → stage_of H.bays n ≡ Some s → stage_of (apply (call n s (shared close)) H).hall.bays n ≡ None
-    by_stage stage.Preparing e = rw e (ap (λ (x : BayRecord). x.stage) (put_there free H.bays n stage.Preparing e))
-    by_stage stage.Sealed e = rw e (ap (λ (x : BayRecord). x.stage) (put_there free H.bays n stage.Sealed e))
+    by_stage stage.Preparing e = rw e (ap (λ (x : Bay). x.stage) (put_there free H.bays n stage.Preparing e))
+    by_stage stage.Sealed e = rw e (ap (λ (x : Bay). x.stage) (put_there free H.bays n stage.Sealed e))
 
 -- a call leaves every bay but its own as it was
 pub others_keep : (c : Call) (H : Hall) (j : ℕ) → j ≢ c.bay → stage_of (apply c H).hall.bays j ≡ stage_of H.bays j
 others_keep c H j d = by_act c.act
   where
     by_refusal : (o : Shared) (r : Option Refusal) → stage_of (settle r c.bay o H).hall.bays j ≡ stage_of H.bays j
-    by_refusal o None = ap (λ (x : BayRecord). x.stage) (get_put_other (bay_after o (bay_at H.bays c.bay)) H.bays c.bay j d)
+    by_refusal o None = ap (λ (x : Bay). x.stage) (get_put_other (bay_after o (bay_at H.bays c.bay)) H.bays c.bay j d)
     by_refusal o (Some e) = refl
 
     by_act : (a : Act) → stage_of (apply (call c.bay c.held a) H).hall.bays j ≡ stage_of H.bays j
     by_act (own i) = own_keeps c.bay c.held i H j
     by_act (shared o) = by_refusal o (verdict c.bay c.held o H.bays)
 
-put_in_range : (x : BayRecord) (l : List BayRecord) (n : ℕ) → T (leb 1 n && leb n 8) → length (put_bay l n x) ≡ 8 → bay_at (put_bay l n x) n ≡ x
+put_in_range : (x : Bay) (l : List Bay) (n : ℕ) → T (leb 1 n && leb n 8) → length (put_bay l n x) ≡ 8 → bay_at (put_bay l n x) n ≡ x
 unfolding bay_at put_bay
 put_in_range x l zero t e = absurd t
 put_in_range x l (suc k) t e = get_or-set_same l k x free (let z = length-set l k x in let w = leb→le (suc k) 8 (and_right (leb 1 (suc k)) (leb (suc k) 8) t) in omega arith)
@@ -78,7 +78,7 @@ opened n H K k e a = ap (λ (G : Hall). stage_of G.bays n) k ∙ by_range (ap (�
         by_test (λ (r : Option Refusal). length (settle r n open_bay H).hall.bays ≡ 8 → done ≡ (settle r n open_bay H).answer → stage_of (settle r n open_bay H).hall.bays n ≡ Some stage.Preparing) (leb 1 n && leb n 8) _ _
         (λ t.
         by_test (λ (r : Option Refusal). length (settle r n open_bay H).hall.bays ≡ 8 → done ≡ (settle r n open_bay H).answer → stage_of (settle r n open_bay H).hall.bays n ≡ Some stage.Preparing) (is_free (bay_at H.bays n).stage) _ _
-        (λ u e a. ap (λ (x : BayRecord). x.stage) (put_in_range (with_stage free stage.Preparing) H.bays n t e))
+        (λ u e a. ap (λ (x : Bay). x.stage) (put_in_range (with_stage free stage.Preparing) H.bays n t e))
         (λ u e a. cc))
         (λ t e a. cc)
 

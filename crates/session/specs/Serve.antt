@@ -3,7 +3,7 @@ use Rattle.std.specs.Prelude.{◌≡◌, ℕ, zero, suc, Bool, true, ◌&&◌, L
 use Rattle.bays.specs.Bays.{bay_at}
 use Rattle.bays.specs.Refusals.{number}
 use Rattle.bays.specs.Stages.{at_stage, is_free}
-use Rattle.bays.specs.declared.record.BayRecord.{BayRecord}
+use Rattle.bays.specs.declared.bay.Bay.{Bay}
 use Rattle.bays.specs.declared.refusal.Refusal.{Refusal}
 use Rattle.bays.specs.declared.stage.Stage.{Stage}
 use Rattle.bays.specs.declared.stage.Stage.TheVariants as stage
@@ -105,23 +105,23 @@ spoken [] = []
 spoken (o ∷ os) = spoken_on o (spoken os)
 
 -- the slot holds the handle of the bay n, at its stage
-abbrev pub Fits : List BayRecord → ℕ → Slot → Type 0
+abbrev pub Fits : List Bay → ℕ → Slot → Type 0
 Fits l n Empty = (bay_at l n).stage ≡ None
 Fits l n (Preparing p) = (p.bay ≡ n) × ((bay_at l n).stage ≡ Some stage.Preparing)
 Fits l n (Sealed s) = (s.bay ≡ n) × ((bay_at l n).stage ≡ Some stage.Sealed)
 
 -- the same as a test, of all slots from a bay on
-abbrev pub fits : List BayRecord → ℕ → Slot → Bool
+abbrev pub fits : List Bay → ℕ → Slot → Bool
 fits l n Empty = is_free (bay_at l n).stage
 fits l n (Preparing p) = p.bay == n && at_stage stage.Preparing (bay_at l n).stage
 fits l n (Sealed s) = s.bay == n && at_stage stage.Sealed (bay_at l n).stage
 
-unfoldable pub fits_from : List BayRecord → ℕ → List Slot → Bool
+unfoldable pub fits_from : List Bay → ℕ → List Slot → Bool
 fits_from l n [] = true
 fits_from l n (s ∷ ss) = fits l n s && fits_from l (suc n) ss
 
 -- eight bays and eight slots, each with the handle of its bay
-abbrev pub all_fit : List BayRecord → List Slot → Bool
+abbrev pub all_fit : List Bay → List Slot → Bool
 all_fit l ss = (length l == 8 && length ss == 8) && fits_from l 1 ss
 
 -- a request that was served, or not even made for want of memory

@@ -186,7 +186,7 @@ const TOO_MANY: usize = 65537;
 
 // So many bytes, in a buffer of their own.
 fn copy_with<S: Store, K: AtStage>(
-    heap: Global,
+    alloc: Global,
     hall: &Hall<S>,
     handle: &Handle<K>,
     address: u16,
@@ -194,7 +194,7 @@ fn copy_with<S: Store, K: AtStage>(
 ) -> Result<Reply, AllocError>
     ensures made { Made result hall.now hall.now (served (Some K.STAGE) handle.now.bay (own (copy address length)) hall.now) }
 {
-    let mut buffer = vec![in heap; 0u8; length.min(TOO_MANY)]?;
+    let mut buffer = vec![in alloc; 0u8; length.min(TOO_MANY)]?;
     match hall.copy(handle, address, &mut buffer) {
         Ok(()) => Ok(Reply::Copied(buffer)),
         Err(refusal) => Ok(Reply::Refused(refusal)),
@@ -202,7 +202,7 @@ fn copy_with<S: Store, K: AtStage>(
 }
 
 fn copy_in<S: Store>(
-    heap: Global,
+    alloc: Global,
     hall: &mut Hall<S>,
     number: u8,
     slot: Slot,
@@ -216,11 +216,11 @@ fn copy_in<S: Store>(
     match slot {
         Slot::Empty => (Slot::Empty, Ok(Reply::NoHandle)),
         Slot::Preparing(handle) => {
-            let reply = copy_with(heap, hall, &handle, address, length);
+            let reply = copy_with(alloc, hall, &handle, address, length);
             (Slot::Preparing(handle), reply)
         }
         Slot::Sealed(handle) => {
-            let reply = copy_with(heap, hall, &handle, address, length);
+            let reply = copy_with(alloc, hall, &handle, address, length);
             (Slot::Sealed(handle), reply)
         }
     }
@@ -228,7 +228,7 @@ fn copy_in<S: Store>(
 
 // A deed done with what is held for its bay.
 pub(crate) fn act_in<S: Store>(
-    heap: Global,
+    alloc: Global,
     hall: &mut Hall<S>,
     number: u8,
     slot: Slot,
@@ -246,7 +246,7 @@ pub(crate) fn act_in<S: Store>(
         Deed::Seal => seal_in(hall, number, slot),
         Deed::Turn(budget) => turn_in(hall, number, slot, *budget),
         Deed::Look => look_in(hall, number, slot),
-        Deed::Copy(address, length) => return copy_in(heap, hall, number, slot, *address, *length),
+        Deed::Copy(address, length) => return copy_in(alloc, hall, number, slot, *address, *length),
         Deed::Close => close_in(hall, number, slot),
     };
     (slot, Ok(reply))

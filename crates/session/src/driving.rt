@@ -14,7 +14,7 @@ use stores::{Lending, Mapped};
 
 // Makes a hall of a store and a book, serves the requests one after the other, closes what is left open, and gives the store back.
 pub fn drive<S: Store + Drop>(
-    heap: Global,
+    alloc: Global,
     store: S,
     book: Book,
     requests: &[Request],
@@ -25,13 +25,13 @@ pub fn drive<S: Store + Drop>(
     ensures footing { IfOk result (λ r. S.Store.footing r.0 ≡ S.Store.footing store) }
 {
     let mut session = Session::new(store, book);
-    let replies = session.serve_all(heap, requests)?;
+    let replies = session.serve_all(alloc, requests)?;
     Ok((session.finish(), replies))
 }
 
 // The same of a store that is lent, which its lender then has as the hall left it.
 pub fn drive_lent<S: Store>(
-    heap: Global,
+    alloc: Global,
     store: &mut S,
     book: Book,
     requests: &[Request],
@@ -41,14 +41,14 @@ pub fn drive_lent<S: Store>(
     ensures bytes { OnOk result (S.Store.bytes store.new ≡ (driven requests.now (new book (S.Store.bytes store.old))).bytes) }
     ensures footing { OnOk result (S.Store.footing store.new ≡ S.Store.footing store.old) }
 {
-    let (lent, replies) = drive(heap, Lending::new(store), book, requests)?;
+    let (lent, replies) = drive(alloc, Lending::new(store), book, requests)?;
     lent.release();
     Ok(replies)
 }
 
 // The same over the pages of a store, which may be a pile itself. Needs `check_table` passed.
 pub fn drive_mapped<S: Store>(
-    heap: Global,
+    alloc: Global,
     below: &mut S,
     table: [u8; 64],
     book: Book,
@@ -61,7 +61,7 @@ pub fn drive_mapped<S: Store>(
     ensures footing { OnOk result (S.Store.footing below.new ≡ S.Store.footing below.old) }
 {
     let mut store = Mapped::new(Lending::new(below), table);
-    let replies = drive_lent(heap, &mut store, book, requests)?;
+    let replies = drive_lent(alloc, &mut store, book, requests)?;
     store.release().release();
     Ok(replies)
 }

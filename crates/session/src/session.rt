@@ -59,18 +59,18 @@ impl<S: Store + Drop> Session<S> {
     }
 
     // Serves a request, or leaves all as it was where there is no memory for what it copies.
-    pub fn serve(&mut self, heap: Global, request: &Request) -> Result<Reply, AllocError>
+    pub fn serve(&mut self, alloc: Global, request: &Request) -> Result<Reply, AllocError>
         ensures { Made result self.old self.new (serve request.now.bay (act_of request.now.deed) self.old) }
     {
         let bay = request.bay;
         if !(1..=8).contains(&bay) {
-            let (slot, reply) = act_in(heap, &mut self.hall, bay, Slot::Empty, &request.deed);
+            let (slot, reply) = act_in(alloc, &mut self.hall, bay, Slot::Empty, &request.deed);
             slot.discard();
             return reply;
         }
         let place = usize::from(bay) - 1;
         let slot = take(&mut self.slots, place);
-        let (slot, reply) = act_in(heap, &mut self.hall, bay, slot, &request.deed);
+        let (slot, reply) = act_in(alloc, &mut self.hall, bay, slot, &request.deed);
         put(&mut self.slots, place, slot);
         reply
     }
@@ -78,16 +78,16 @@ impl<S: Store + Drop> Session<S> {
     // Serves one request after the other.
     pub fn serve_all(
         &mut self,
-        heap: Global,
+        alloc: Global,
         requests: &[Request],
     ) -> Result<Vec<Reply>, AllocError>
         ensures replies { IfOk result (λ v. map said v.items ≡ replies requests.now self.old) }
         ensures answers { IfOk result (λ v. spoken (map said v.items) ≡ answers (history requests.now self.old) self.old) }
         ensures after { OnOk result (self.new ≡ after (history requests.now self.old) self.old) }
     {
-        let mut replies = Vec::new(heap);
+        let mut replies = Vec::new(alloc);
         for request in requests {
-            replies.push(self.serve(heap, request)?)?;
+            replies.push(self.serve(alloc, request)?)?;
         }
         Ok(replies)
     }

@@ -5,7 +5,7 @@ mod measure;
 mod runs;
 mod work;
 
-use inputs::ended;
+use cli::ended;
 use std::process::ExitCode;
 use work::measure_all;
 

@@ -1,5 +1,5 @@
 use crate::runs::steps;
-use inputs::{Failure, read_book};
+use cli::{Failure, read_book};
 use session::{Request, drive};
 use std::time::Instant;
 use store::Store;

@@ -4,18 +4,18 @@ use std::alloc::{AllocError, Global};
 
 // The bay of a job is prepared and gets a record, and its program runs so often on it.
 pub fn requests(
-    heap: Global,
+    alloc: Global,
     job: &Job,
     record: &[u8],
     runs: u32,
 ) -> Result<Vec<Request>, AllocError> {
     let bay = job.number;
-    let mut deeds = vec![in heap; Deed::Open]?;
-    for grant in job.bay.grants.iter().flatten() {
+    let mut deeds = vec![in alloc; Deed::Open]?;
+    for grant in job.rights.grants.iter().flatten() {
         deeds.push(Deed::Grant(*grant))?;
     }
     deeds.push(Deed::Seal)?;
-    deeds.push(Deed::Load(job.input.address, record.to_vec(heap)?))?;
+    deeds.push(Deed::Load(job.input.address, record.to_vec(alloc)?))?;
     for _ in 0..runs {
         deeds.push(Deed::Set(job.registers))?;
         for _ in 0..job.turns.count {
@@ -25,7 +25,7 @@ pub fn requests(
     deeds
         .into_iter()
         .map(|deed| Request { bay, deed })
-        .collect(heap)
+        .collect(alloc)
 }
 
 // The steps of all turns.

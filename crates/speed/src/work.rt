@@ -1,6 +1,6 @@
 use crate::measure::measure;
 use crate::runs::requests;
-use inputs::{Failure, Fault, full, parse_job, read_file, read_image, read_records, words, zeroed};
+use cli::{Failure, Fault, full, parse_job, read_file, read_image, read_records, words, zeroed};
 use job::Job;
 use session::Request;
 use std::alloc::Global;
@@ -81,10 +81,10 @@ fn measure_over(
     over_pages(rt, image, book, requests, plain)
 }
 
-fn first_record<'a>(heap: Global, job: &Job, records: &'a [u8]) -> Result<&'a [u8], Failure> {
+fn first_record<'a>(alloc: Global, job: &Job, records: &'a [u8]) -> Result<&'a [u8], Failure> {
     records
         .get(..job.input.bytes())
-        .ok_or_else(|| Failure::of_file(heap, job.records, Fault::NoRecord))
+        .ok_or_else(|| Failure::of_file(alloc, job.records, Fault::NoRecord))
 }
 
 pub fn measure_all(rt: &HostRuntime) -> Result<(), Failure> {

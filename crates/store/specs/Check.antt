@@ -1,13 +1,13 @@
 -- The check before a store is made.
 use Rattle.std.specs.Prelude.{ℕ, cond, Ok, Err, Result, ◌==◌}
-use Rattle.store.specs.declared.check.Unmade.{Unmade}
-use Rattle.store.specs.declared.check.Unmade.TheVariants.{Size}
+use Rattle.store.specs.declared.check.SizeError.{SizeError}
+use Rattle.store.specs.declared.check.SizeError.TheVariants.{Size}
 
 -- each refusal's number
-abbrev pub number : Unmade → ℕ
+abbrev pub number : SizeError → ℕ
 number Size = 8
 
-abbrev pub numbered : Result (Unit {0}) Unmade → Result (Unit {0}) ℕ
+abbrev pub numbered : Result (Unit {0}) SizeError → Result (Unit {0}) ℕ
 numbered (Ok u) = Ok u
 numbered (Err e) = Err (number e)
 

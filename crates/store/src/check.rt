@@ -5,12 +5,12 @@ use thiserror::Error;
 
 // Why a store cannot be made.
 #[derive(Clone, Copy, Debug, PartialEq, Eq, Error)]
-pub enum Unmade {
+pub enum SizeError {
     #[error("a store has 65536 bytes")]
     Size = 8,
 }
 
-impl Unmade {
+impl SizeError {
     pub fn number(self) -> u8
         ensures { result ≡ Rattle.store.specs.Check.number self }
     {
@@ -19,12 +19,12 @@ impl Unmade {
 }
 
 // The check before a store is made: refuses memory of another size than 65,536 bytes.
-pub fn check_size(memory: &[u8]) -> Result<(), Unmade>
+pub fn check_size(memory: &[u8]) -> Result<(), SizeError>
     ensures { numbered result ≡ sized (length memory.now) }
 {
     if memory.len() == 65536 {
         Ok(())
     } else {
-        Err(Unmade::Size)
+        Err(SizeError::Size)
     }
 }

@@ -7,6 +7,6 @@ mod owned;
 mod store;
 
 pub use bulk::{append_all, read_all, write_all};
-pub use check::{Unmade, check_size};
+pub use check::{SizeError, check_size};
 pub use owned::Owned;
 pub use store::Store;

@@ -2,8 +2,8 @@
 use Rattle.std.specs.Prelude.{◌≡◌, ℕ, zero, suc, ◌+◌, ◌*◌, ◌/◌, ◌%◌, Bool, true, false, cond, not, ◌&&◌, ◌==◌, List, [], ◌∷◌, length, nat_lt, Ok, Err, Result, slice_index, slice_index_or}
 use Rattle.std.specs.List.{list_any}
 use Rattle.std.proofs.Common.{ap, refl}
-use Rattle.stores.specs.declared.check.Unmapped.{Unmapped}
-use Rattle.stores.specs.declared.check.Unmapped.TheVariants.{Page}
+use Rattle.stores.specs.declared.check.TableError.{TableError}
+use Rattle.stores.specs.declared.check.TableError.TheVariants.{Page}
 
 -- f 0, f 1, .., f (n - 1)
 unfoldable pub tabulate : ℕ → (ℕ → ℕ) → List ℕ
@@ -42,9 +42,9 @@ pages_once (page ∷ pages) = new_page page pages && pages_once pages
 abbrev pub paged : List ℕ → Result (Unit {0}) ℕ
 paged table = cond (pages_once table) (Ok tt) (Err 9)
 
-abbrev pub number : Unmapped → ℕ
+abbrev pub number : TableError → ℕ
 number Page = 9
 
-abbrev pub numbered : Result (Unit {0}) Unmapped → Result (Unit {0}) ℕ
+abbrev pub numbered : Result (Unit {0}) TableError → Result (Unit {0}) ℕ
 numbered (Ok u) = Ok u
 numbered (Err e) = Err (number e)

@@ -6,12 +6,12 @@ use thiserror::Error;
 
 // Why a table of pages is none.
 #[derive(Clone, Copy, Debug, PartialEq, Eq, Error)]
-pub enum Unmapped {
+pub enum TableError {
     #[error("a page table has each of 0 to 63 once")]
     Page = 9,
 }
 
-impl Unmapped {
+impl TableError {
     pub fn number(self) -> u8
         ensures { result ≡ Rattle.stores.specs.Pages.number self }
     {
@@ -42,12 +42,12 @@ fn is_once(pages: &[u8]) -> bool
 }
 
 // The check before a mapped store is made: refuses a page number out of range or repeated.
-pub fn check_table(table: &[u8; 64]) -> Result<(), Unmapped>
+pub fn check_table(table: &[u8; 64]) -> Result<(), TableError>
     ensures { numbered result ≡ paged table.now }
 {
     if is_once(table) {
         Ok(())
     } else {
-        Err(Unmapped::Page)
+        Err(TableError::Page)
     }
 }

@@ -11,7 +11,7 @@ mod plain;
 #[cfg(test)]
 mod tests;
 
-pub use check::{Unmapped, check_table};
+pub use check::{TableError, check_table};
 pub use image::Image;
 pub use lending::Lending;
 pub use mapped::Mapped;

@@ -2,14 +2,14 @@ use crate::image::Image;
 use crate::lending::Lending;
 use crate::mapped::Mapped;
 use crate::plain::Plain;
-use crate::{Unmapped, check_table};
+use crate::{TableError, check_table};
 use std::alloc::{AllocError, Global};
 use std::process::Abort;
 use std::test::Fail;
 use store::{Store, check_size};
 
-fn filled(heap: Global, byte: u8) -> Result<Vec<u8>, AllocError> {
-    vec![in heap; byte; 65536]
+fn filled(alloc: Global, byte: u8) -> Result<Vec<u8>, AllocError> {
+    vec![in alloc; byte; 65536]
 }
 
 fn reversal() -> [u8; 64] {
@@ -111,11 +111,11 @@ fn a_page_through_a_table(rt: HostRuntime) -> Result<(), Fail> {
 #[test]
 fn tables_that_are_none(rt: HostRuntime) -> Result<(), Fail> {
     let mut table = reversal();
-    assert_eq!(rt; check_table(&table).map_err(Unmapped::number), Ok(()));
+    assert_eq!(rt; check_table(&table).map_err(TableError::number), Ok(()));
     table[0] = 64;
-    assert_eq!(rt; check_table(&table).map_err(Unmapped::number), Err(9));
+    assert_eq!(rt; check_table(&table).map_err(TableError::number), Err(9));
     table[0] = 62;
-    assert_eq!(rt; check_table(&table).map_err(Unmapped::number), Err(9));
+    assert_eq!(rt; check_table(&table).map_err(TableError::number), Err(9));
     Ok(())
 }
 

@@ -1,3 +1,4 @@
 pub mod Search
 pub mod Next
 pub mod Numbers
+pub mod Spelling

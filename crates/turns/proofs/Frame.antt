@@ -1,9 +1,9 @@
 -- A step changes bytes only under write grants, and only where its operand lies.
 use Rattle.std.proofs.Common.{◌≡◌, ℕ, ◌+◌, ◌/◌, ◌%◌, Bool, true, false, ◌&&◌, ◌||◌, eqb, List, [], get_or, set, Some, Ok, Err, Result, sym, refl, ap, ◌∙◌, subst, ⊎_elim, arith, get_or-set_other}
 use Rattle.std.proofs.lemmas.Bool.{cases_Bool, eqb-false, eqb-true, false≢true, or_parts}
-use Rattle.code.specs.declared.reading.Reading.{Reading}
+use Rattle.isa.specs.declared.reading.Reading.{Reading}
 use Rattle.access.specs.Access.{Item, aligned, allows, bind, byte, checked, full, half, half_may, item_may, sight}
-use Rattle.access.specs.declared.bay.Bay.{Bay}
+use Rattle.access.specs.declared.rights.Rights.{Rights}
 use Rattle.access.specs.declared.stop.Access.TheVariants.{Write}
 use Rattle.access.specs.declared.stop.Cause.{Cause}
 use Rattle.access.specs.declared.stop.Denial.{Denial}
@@ -63,19 +63,19 @@ left_for : (p : Place) (x : Result (Unit {0}) Denial) (q : Pending) (d : Pending
 left_for p (Ok u) q d e h = (refl, cc)
 left_for p (Err c) q d e h = let z : ◌≡◌ {A = ℕ} 0 1 = cc in absurd (omega arith)
 
-module _ (bay : Bay) (bs : List ℕ) where
+module _ (rights : Rights) (bs : List ℕ) where
   -- only bytes of the list, and those only under write grants
   abbrev Kept : List ℕ → List ℕ → Type 0
-  Kept bytes after = Only (λ a. allows bay Write a && among a bytes) bs after
+  Kept bytes after = Only (λ a. allows rights Write a && among a bytes) bs after
 
-  allowed : (a : ℕ) (t : Bool) → allows bay Write a ≡ t → checked bay Write a ≡ Ok tt → t ≡ true
+  allowed : (a : ℕ) (t : Bool) → allows rights Write a ≡ t → checked rights Write a ≡ Ok tt → t ≡ true
   allowed a true e h = refl
   allowed a false e h = let z : ◌≡◌ {A = ℕ} 0 1 = cc in absurd (omega arith)
 
-  item_kept : (i : Item) (at w : ℕ) → item_may i (checked bay Write) at ≡ Ok tt → Kept (item_bytes i at) (into bs (pending i at w))
+  item_kept : (i : Item) (at w : ℕ) → item_may i (checked rights Write) at ≡ Ok tt → Kept (item_bytes i at) (into bs (pending i at w))
   item_kept i at w h a k =
       ⊎_elim
-      (λ t. absurd (false≢true (sym k ∙ ap (λ x. allows bay Write a && x) t ∙ ap (λ x. x && true) (allowed a (allows bay Write a) refl (item_leave i (checked bay Write) at h a t)))))
+      (λ t. absurd (false≢true (sym k ∙ ap (λ x. allows rights Write a && x) t ∙ ap (λ x. x && true) (allowed a (allows rights Write a) refl (item_leave i (checked rights Write) at h a t)))))
       (λ f. item_only i at w bs a f)
       (cases_Bool (among a (item_bytes i at)))
 
@@ -84,17 +84,17 @@ module _ (bay : Bay) (bs : List ℕ) where
   bind_kept (Err c) k g e h q = let z : ◌≡◌ {A = ℕ} 0 1 = cc in absurd (omega arith)
 
   -- of every instruction
-  act_kept : (t : Act) (e : Effect) → perform (sight bay bs) t ≡ Ok e → Kept (target (sight bay bs) t) (committed bs e.pending)
+  act_kept : (t : Act) (e : Effect) → perform (sight rights bs) t ≡ Ok e → Kept (target (sight rights bs) t) (committed bs e.pending)
   act_kept (done r) e h = let q : still r ≡ e = cc in subst (λ (x : Effect). Kept [] (committed bs x.pending)) q (λ a k. refl)
   act_kept (store i at w r) e h =
-      let k = left_for _ (item_may i (checked bay Write) at) (pending i at w) (λ p. record { registers = r; pending = Some p }) e h in
+      let k = left_for _ (item_may i (checked rights Write) at) (pending i at w) (λ p. record { registers = r; pending = Some p }) e h in
       subst (λ (x : Effect). Kept (item_bytes i at) (committed bs x.pending)) k.1 (item_kept i at w k.0)
   act_kept (fail c) e h = let z : ◌≡◌ {A = ℕ} 0 1 = cc in absurd (omega arith)
-  act_kept (t >>= f) e h = bind_kept (obey (sight bay bs) t) (λ x. perform (sight bay bs) (f x)) (λ x. target (sight bay bs) (f x)) e h (λ x k. act_kept (f x) e k)
+  act_kept (t >>= f) e h = bind_kept (obey (sight rights bs) t) (λ x. perform (sight rights bs) (f x)) (λ x. target (sight rights bs) (f x)) e h (λ x k. act_kept (f x) e k)
 
-  step_kept : (s : ℕ) (t : Act) (o : Result Effect Cause) → perform (sight bay bs) t ≡ o → Kept (target (sight bay bs) t) (bytes_after bs (stopped s o))
+  step_kept : (s : ℕ) (t : Act) (o : Result Effect Cause) → perform (sight rights bs) t ≡ o → Kept (target (sight rights bs) t) (bytes_after bs (stopped s o))
   step_kept s t (Ok e) h = act_kept t e h
   step_kept s t (Err c) h = λ a k. refl
 
-pub step_writes : (reads : ℕ → Reading) (bay : Bay) (bs : List ℕ) (r : Registers) → Only (operand_granted reads bay r bs) bs (bytes_after bs (stepped reads r (sight bay bs)))
-step_writes reads bay bs r = step_kept bay bs r.s (planned reads r) (perform (sight bay bs) (planned reads r)) refl
+pub step_writes : (reads : ℕ → Reading) (rights : Rights) (bs : List ℕ) (r : Registers) → Only (operand_granted reads rights r bs) bs (bytes_after bs (stepped reads r (sight rights bs)))
+step_writes reads rights bs r = step_kept rights bs r.s (planned reads r) (perform (sight rights bs) (planned reads r)) refl

@@ -2,14 +2,14 @@
 use Rattle.std.proofs.Common.{◌≡◌, ℕ, zero, suc, ◌+◌, ◌%◌, ◌<◌, true, false, cond, eqb, List, [], ◌∷◌, get_or, pos, Some, None, Ok, Err, Result, refl, ap, ◌∙◌, arith}
 use Rattle.std.proofs.lemmas.Bool.{eq-eqb, ne_eqb}
 use Rattle.std.proofs.lemmas.Bool.Decides.{nat_tests}
-use Rattle.code.specs.declared.format.Format.TheVariants.{L}
-use Rattle.code.specs.declared.name.Name.{Name}
-use Rattle.code.specs.declared.name.Name.TheVariants.{Mbs, Mhs}
-use Rattle.code.specs.declared.reading.Reading.{Reading}
-use Rattle.code.specs.declared.reading.Reading.TheVariants.{Defined}
+use Rattle.isa.specs.declared.format.Format.TheVariants.{L}
+use Rattle.isa.specs.declared.name.Name.{Name}
+use Rattle.isa.specs.declared.name.Name.TheVariants.{Mbs, Mhs}
+use Rattle.isa.specs.declared.reading.Reading.{Reading}
+use Rattle.isa.specs.declared.reading.Reading.TheVariants.{Defined}
 use Rattle.word.specs.Bytes as bytes
 use Rattle.access.specs.Access.{Item, Sight, aligned, allows, bind, byte, checked, full, half, half_at, half_may, item_may, item_read, seen, sight}
-use Rattle.access.specs.declared.bay.Bay.{Bay}
+use Rattle.access.specs.declared.rights.Rights.{Rights}
 use Rattle.access.specs.declared.stop.Access.TheVariants.{Read, Write}
 use Rattle.access.specs.declared.stop.Cause.{Cause}
 use Rattle.access.specs.declared.stop.Denial.{Denial}
@@ -30,11 +30,11 @@ use Rattle.turns.specs.Step.{begun, committed, into, mode, stepped, stopped}
 use Rattle.turns.specs.Turn.{Run, run}
 use Rattle.turns.proofs.Frame.{item_only}
 
-module _ (bay : Bay) where
-  seen_ok : (bs : List ℕ) (b : ℕ) → allows bay Read b ≡ true → seen bay bs b ≡ Ok (get_or bs b 0)
+module _ (rights : Rights) where
+  seen_ok : (bs : List ℕ) (b : ℕ) → allows rights Read b ≡ true → seen rights bs b ≡ Ok (get_or bs b 0)
   seen_ok bs b h = ap {B = Result ℕ Denial} (λ t. bind (cond t (Ok tt) (Err (record { access = Read; byte = b }))) (λ _. Ok (get_or bs b 0))) h
 
-  may_ok : (b : ℕ) → allows bay Write b ≡ true → checked bay Write b ≡ Ok tt
+  may_ok : (b : ℕ) → allows rights Write b ≡ true → checked rights Write b ≡ Ok tt
   may_ok b h = ap {B = Result (Unit {0}) Denial} (λ t. cond t (Ok tt) (Err (record { access = Write; byte = b }))) h
 
   pair_read : (look : ℕ → Result ℕ Denial) (a u v : ℕ) → look a ≡ Ok u → look ((a + 1) % 65536) ≡ Ok v → half_at look a ≡ Ok (bytes.half u v)
@@ -43,25 +43,25 @@ module _ (bay : Bay) where
   pair_may : (may : ℕ → Result (Unit {0}) Denial) (a : ℕ) → may a ≡ Ok tt → may ((a + 1) % 65536) ≡ Ok tt → half_may may a ≡ Ok tt
   pair_may may a p q = ap (λ o. bind o (λ _. may ((a + 1) % 65536))) p ∙ q
 
-  item_seen : (i : Item) (at : ℕ) (bs : List ℕ) → Readable bay i at → item_read i (seen bay bs) at ≡ Ok (value i bs at)
+  item_seen : (i : Item) (at : ℕ) (bs : List ℕ) → Readable rights i at → item_read i (seen rights bs) at ≡ Ok (value i bs at)
   item_seen byte at bs h = seen_ok bs at h.0
-  item_seen half at bs h = pair_read (seen bay bs) (aligned half at) _ _ (seen_ok bs _ h.0) (seen_ok bs _ h.1.0)
+  item_seen half at bs h = pair_read (seen rights bs) (aligned half at) _ _ (seen_ok bs _ h.0) (seen_ok bs _ h.1.0)
   item_seen full at bs h =
       let a : ℕ = aligned full at in
       let b : ℕ = (a + 2) % 65536 in
-      let p = pair_read (seen bay bs) a _ _ (seen_ok bs a h.0) (seen_ok bs ((a + 1) % 65536) h.1.0) in
-      let q = pair_read (seen bay bs) b _ _ (seen_ok bs b h.1.1.0) (seen_ok bs ((b + 1) % 65536) h.1.1.1.0) in
-      ap (λ o. bind o (λ high. bind (half_at (seen bay bs) b) (λ low. Ok (bytes.full high low)))) p ∙ ap (λ o. bind o (λ low. Ok (bytes.full (bytes.half (get_or bs a 0) (get_or bs ((a + 1) % 65536) 0)) low))) q
+      let p = pair_read (seen rights bs) a _ _ (seen_ok bs a h.0) (seen_ok bs ((a + 1) % 65536) h.1.0) in
+      let q = pair_read (seen rights bs) b _ _ (seen_ok bs b h.1.1.0) (seen_ok bs ((b + 1) % 65536) h.1.1.1.0) in
+      ap (λ o. bind o (λ high. bind (half_at (seen rights bs) b) (λ low. Ok (bytes.full high low)))) p ∙ ap (λ o. bind o (λ low. Ok (bytes.full (bytes.half (get_or bs a 0) (get_or bs ((a + 1) % 65536) 0)) low))) q
 
-  item_may_ok : (i : Item) (at : ℕ) → Writable bay i at → item_may i (checked bay Write) at ≡ Ok tt
+  item_may_ok : (i : Item) (at : ℕ) → Writable rights i at → item_may i (checked rights Write) at ≡ Ok tt
   item_may_ok byte at h = may_ok at h.0
-  item_may_ok half at h = pair_may (checked bay Write) (aligned half at) (may_ok _ h.0) (may_ok _ h.1.0)
+  item_may_ok half at h = pair_may (checked rights Write) (aligned half at) (may_ok _ h.0) (may_ok _ h.1.0)
   item_may_ok full at h =
       let a : ℕ = aligned full at in
       let b : ℕ = (a + 2) % 65536 in
-      let p = pair_may (checked bay Write) a (may_ok a h.0) (may_ok _ h.1.0) in
-      let q = pair_may (checked bay Write) b (may_ok b h.1.1.0) (may_ok _ h.1.1.1.0) in
-      ap (λ o. bind o (λ _. half_may (checked bay Write) b)) p ∙ q
+      let p = pair_may (checked rights Write) a (may_ok a h.0) (may_ok _ h.1.0) in
+      let q = pair_may (checked rights Write) b (may_ok b h.1.1.0) (may_ok _ h.1.1.1.0) in
+      ap (λ o. bind o (λ _. half_may (checked rights Write) b)) p ∙ q
 
 -- a write leaves an item alone that has no byte in common with it
 module _ (i : Item) (at v : ℕ) (bs : List ℕ) where
@@ -81,11 +81,11 @@ module _ (i : Item) (at v : ℕ) (bs : List ℕ) where
       let t = item_only i at v bs _ h.1.1.1.0 in
       cc
 
-  fetch_kept : (bay : Bay) (s : ℕ) → Apart i at half s → obey (sight bay after) (fetch s) ≡ obey (sight bay bs) (fetch s)
-  fetch_kept bay s h =
+  fetch_kept : (rights : Rights) (s : ℕ) → Apart i at half s → obey (sight rights after) (fetch s) ≡ obey (sight rights bs) (fetch s)
+  fetch_kept rights s h =
       let a : ℕ = aligned half s in
       let b : ℕ = (a + 1) % 65536 in
-      let two : ℕ → ℕ → Result ℕ Cause = λ u v. placed Fetch (bind (bind (checked bay Read a) (λ _. Ok u)) (λ high. bind (bind (checked bay Read b) (λ _. Ok v)) (λ low. Ok (bytes.half high low)))) in
+      let two : ℕ → ℕ → Result ℕ Cause = λ u v. placed Fetch (bind (bind (checked rights Read a) (λ _. Ok u)) (λ high. bind (bind (checked rights Read b) (λ _. Ok v)) (λ low. Ok (bytes.half high low)))) in
       ap (λ u. two u (get_or after b 0)) (item_only i at v bs a h.0) ∙ ap (two (get_or bs a 0)) (item_only i at v bs b h.1.0)
 
 -- x comes nearer to zero by one
@@ -119,35 +119,35 @@ each_with : (P Q R : ℕ → Type 0) → ((x : ℕ) → P x → Q x → R x) →
 each_with P Q R f [] h g = tt
 each_with P Q R f (x ∷ xs) h g = (f x h.0 g.0, each_with P Q R f xs h.1 g.1)
 
-module _ (reads : ℕ → Reading) (bay : Bay) (name : Name) (i : Item) (at : ℕ → ℕ → ℕ)
+module _ (reads : ℕ → Reading) (rights : Rights) (name : Name) (i : Item) (at : ℕ → ℕ → ℕ)
     (rule : (t : Mode) (r : Registers) → executed name t r ≡ string (λ p x. moved i (at p.z) (at p.y) p x) r) where
   -- one element of a string that is granted
-  one : (r : Registers) (bs : List ℕ) (w : ℕ) → obey (sight bay bs) (fetch r.s) ≡ Ok w → reads w ≡ Defined name L 0 (pos 0) → eqb r.x 0 ≡ false → Readable bay i (at r.z (nearer r.x)) → Writable bay i (at r.y (nearer r.x)) → stepped reads r (sight bay bs) ≡ Ok (record { registers = passed (advanced r) (nearer r.x); pending = Some (pending i (at r.y (nearer r.x)) (value i bs (at r.z (nearer r.x)))) })
+  one : (r : Registers) (bs : List ℕ) (w : ℕ) → obey (sight rights bs) (fetch r.s) ≡ Ok w → reads w ≡ Defined name L 0 (pos 0) → eqb r.x 0 ≡ false → Readable rights i (at r.z (nearer r.x)) → Writable rights i (at r.y (nearer r.x)) → stepped reads r (sight rights bs) ≡ Ok (record { registers = passed (advanced r) (nearer r.x); pending = Some (pending i (at r.y (nearer r.x)) (value i bs (at r.z (nearer r.x)))) })
   one r bs w f d x p q =
-      let v : Sight = sight bay bs in
+      let v : Sight = sight rights bs in
       let x' : ℕ = nearer r.x in
       let ends : Pending → Effect = λ p. record { registers = passed (advanced r) x'; pending = Some p } in
       ap {B = Result Effect Stop} (λ o. stopped r.s (bind o (λ w. perform v (begun (reads w) (advanced r))))) f
       ∙ ap (λ c. stopped r.s (perform v (begun c (advanced r)))) d
       ∙ ap (λ t. stopped r.s (perform v t)) (rule (mode L 0 (pos 0)) (advanced r))
       ∙ ap (λ t. stopped r.s (perform v (cond t (done (complete (advanced r))) (moved i (at r.z) (at r.y) (advanced r) x')))) x
-      ∙ ap {B = Result Effect Stop} (λ o. stopped r.s (bind (placed Operand o) (λ u. perform v (store i (at r.y x') u (passed (advanced r) x'))))) (item_seen bay i (at r.z x') bs p)
-      ∙ ap {B = Result Effect Stop} (λ o. stopped r.s (bind (bind (placed Operand o) (λ _. Ok (pending i (at r.y x') (value i bs (at r.z x'))))) (λ p. Ok (ends p)))) (item_may_ok bay i (at r.y x') q)
+      ∙ ap {B = Result Effect Stop} (λ o. stopped r.s (bind (placed Operand o) (λ u. perform v (store i (at r.y x') u (passed (advanced r) x'))))) (item_seen rights i (at r.z x') bs p)
+      ∙ ap {B = Result Effect Stop} (λ o. stopped r.s (bind (bind (placed Operand o) (λ _. Ok (pending i (at r.y x') (value i bs (at r.z x'))))) (λ p. Ok (ends p)))) (item_may_ok rights i (at r.y x') q)
 
   -- a step that is completed, and the steps after it
-  on : (n k : ℕ) (r : Registers) (bs : List ℕ) (e : Effect) → stepped reads r (sight bay bs) ≡ Ok e → run reads bay (suc n) k r bs ≡ run reads bay n (k + 1) e.registers (committed bs e.pending)
-  on n k r bs e h = ap (λ o. elim o [ Ok e ↦ run reads bay n (k + 1) e.registers (committed bs e.pending) | Err t ↦ record { registers = r; bytes = bs; turned = record { steps = k; stop = Some t } } ]) h
+  on : (n k : ℕ) (r : Registers) (bs : List ℕ) (e : Effect) → stepped reads r (sight rights bs) ≡ Ok e → run reads rights (suc n) k r bs ≡ run reads rights n (k + 1) e.registers (committed bs e.pending)
+  on n k r bs e h = ap (λ o. elim o [ Ok e ↦ run reads rights n (k + 1) e.registers (committed bs e.pending) | Err t ↦ record { registers = r; bytes = bs; turned = record { steps = k; stop = Some t } } ]) h
 
   abbrev ended : ℕ → Registers → List ℕ → Run
   ended k r bs = record { registers = r; bytes = bs; turned = record { steps = k; stop = None } }
 
-  whole : (n k : ℕ) (r : Registers) (old bs : List ℕ) (w : ℕ) → r.s < 65536 → r.x < 65536 → elements r.x ≡ suc n → obey (sight bay bs) (fetch r.s) ≡ Ok w → reads w ≡ Defined name L 0 (pos 0)
-      → Each (λ x. Readable bay i (at r.z x)) (places (suc n) r.x)
-      → Each (λ x. Writable bay i (at r.y x)) (places (suc n) r.x)
+  whole : (n k : ℕ) (r : Registers) (old bs : List ℕ) (w : ℕ) → r.s < 65536 → r.x < 65536 → elements r.x ≡ suc n → obey (sight rights bs) (fetch r.s) ≡ Ok w → reads w ≡ Defined name L 0 (pos 0)
+      → Each (λ x. Readable rights i (at r.z x)) (places (suc n) r.x)
+      → Each (λ x. Writable rights i (at r.y x)) (places (suc n) r.x)
       → Each (λ x. Each (λ x'. Apart i (at r.y x) i (at r.z x')) (places (suc n) r.x)) (places (suc n) r.x)
       → Each (λ x. Apart i (at r.y x) half r.s) (places (suc n) r.x)
       → Each (λ x. value i bs (at r.z x) ≡ value i old (at r.z x)) (places (suc n) r.x)
-      → run reads bay (suc n) k r bs ≡ ended (k + suc n) (complete (advanced r)) (copied i (at r.z) (at r.y) old bs (places (suc n) r.x))
+      → run reads rights (suc n) k r bs ≡ ended (k + suc n) (complete (advanced r)) (copied i (at r.z) (at r.y) old bs (places (suc n) r.x))
   whole zero k r old bs w s x e f d p q a c v =
       let x' : ℕ = nearer r.x in
       let z = no_element x' (nearer_small r.x x) (nearer_elements r.x 0 x e) in
@@ -162,10 +162,10 @@ module _ (reads : ℕ → Reading) (bay : Bay) (name : Name) (i : Item) (at : �
       let e' = nearer_elements r.x (suc m) x e in
       let x'' = nearer_small r.x x in
       let kept = each_with (λ y. Apart i to i (at r.z y)) (λ y. value i bs (at r.z y) ≡ value i old (at r.z y)) (λ y. value i bs' (at r.z y) ≡ value i old (at r.z y)) (λ y g h. value_kept i to u bs i (at r.z y) g ∙ h) (places (suc m) x') a.0.1 v.1 in
-      let rest = whole m (k + 1) (with_x r x') old bs' w s x'' e' (fetch_kept i to u bs bay r.s c.0 ∙ f) d p.1 q.1 (each_map _ _ (λ y h. h.1) (places (suc m) x') a.1) c.1 kept in
+      let rest = whole m (k + 1) (with_x r x') old bs' w s x'' e' (fetch_kept i to u bs rights r.s c.0 ∙ f) d p.1 q.1 (each_map _ _ (λ y h. h.1) (places (suc m) x') a.1) c.1 kept in
       let j : k + 1 + suc m ≡ k + suc (suc m) = omega arith in
       on (suc m) k r bs _ (one r bs w f d (some_element r.x (suc m) e) p.0 q.0)
-      ∙ ap (λ g. run reads bay (suc m) (k + 1) g bs') (pass_on r x' s (some_element x' m e'))
+      ∙ ap (λ g. run reads rights (suc m) (k + 1) g bs') (pass_on r x' s (some_element x' m e'))
       ∙ rest
       ∙ ap (λ t. ended t (complete (advanced r)) (copied i (at r.z) (at r.y) old bs' (places (suc m) x'))) j
       ∙ ap (λ t. ended (k + suc (suc m)) (complete (advanced r)) (copied i (at r.z) (at r.y) old (into bs (pending i to t)) (places (suc m) x'))) v.0
@@ -174,7 +174,7 @@ module _ (reads : ℕ → Reading) (bay : Bay) (name : Name) (i : Item) (at : �
   each_refl f [] = tt
   each_refl f (x ∷ xs) = (refl, each_refl f xs)
 
-  counted : (n : ℕ) (r : Registers) (bs : List ℕ) → elements r.x ≡ n → 0 < n → r.s < 65536 → r.x < 65536 → Movable reads bay name i (at r.z) (at r.y) (places n r.x) r bs → run reads bay n 0 r bs ≡ ended n (complete (advanced r)) (copied i (at r.z) (at r.y) bs bs (places n r.x))
+  counted : (n : ℕ) (r : Registers) (bs : List ℕ) → elements r.x ≡ n → 0 < n → r.s < 65536 → r.x < 65536 → Movable reads rights name i (at r.z) (at r.y) (places n r.x) r bs → run reads rights n 0 r bs ≡ ended n (complete (advanced r)) (copied i (at r.z) (at r.y) bs bs (places n r.x))
   counted zero r bs e l s x m = absurd (omega arith)
   counted (suc n) r bs e l s x m =
       let j : 0 + suc n ≡ suc n = omega arith in
@@ -185,7 +185,7 @@ some : (x : ℕ) → 0 < x → x < 65536 → 0 < elements x
 some x h g = grind (arith, nat_tests)
 
 pub moves_bytes : MovesBytes
-moves_bytes reads bay r bs s x g m = counted reads bay Mbs byte strings.byte_at (λ t r. refl) (elements r.x) r bs refl (some r.x x g) s g m
+moves_bytes reads rights r bs s x g m = counted reads rights Mbs byte strings.byte_at (λ t r. refl) (elements r.x) r bs refl (some r.x x g) s g m
 
 pub moves_halfwords : MovesHalfwords
-moves_halfwords reads bay r bs s x g m = counted reads bay Mhs half strings.half_at (λ t r. refl) (elements r.x) r bs refl (some r.x x g) s g m
+moves_halfwords reads rights r bs s x g m = counted reads rights Mhs half strings.half_at (λ t r. refl) (elements r.x) r bs refl (some r.x x g) s g m

@@ -1,13 +1,13 @@
 -- Laws of steps and turns, in the machine's own words.
 use Rattle.std.specs.Prelude.{◌≡◌, ℕ, zero, suc, ◌+◌, ◌-◌, ◌%◌, ◌<◌, Bool, true, false, cond, ◌&&◌, ◌||◌, List, [], ◌∷◌, pos, Some, None, Ok, Err, Option, Result, ◌==◌, nat_lt, slice_index}
-use Rattle.code.specs.declared.reading.Reading.{Reading}
+use Rattle.isa.specs.declared.reading.Reading.{Reading}
 use Rattle.access.specs.Access.{Item, Sight, aligned, allows, byte, full, half, sight}
-use Rattle.code.specs.declared.format.Format.TheVariants.{L}
-use Rattle.code.specs.declared.name.Name.{Name}
-use Rattle.code.specs.declared.name.Name.TheVariants.{Mbs, Mhs}
-use Rattle.code.specs.declared.reading.Reading.TheVariants.{Defined}
+use Rattle.isa.specs.declared.format.Format.TheVariants.{L}
+use Rattle.isa.specs.declared.name.Name.{Name}
+use Rattle.isa.specs.declared.name.Name.TheVariants.{Mbs, Mhs}
+use Rattle.isa.specs.declared.reading.Reading.TheVariants.{Defined}
 use Rattle.word.specs.Bytes as bytes
-use Rattle.access.specs.declared.bay.Bay.{Bay}
+use Rattle.access.specs.declared.rights.Rights.{Rights}
 use Rattle.access.specs.declared.stop.Access.TheVariants.{Read, Write}
 use Rattle.access.specs.declared.stop.Stop.{Stop}
 use Rattle.machine.specs.Act.{Act, done, fail, pending, store, ◌>>=◌}
@@ -45,16 +45,16 @@ target v (fail c) = []
 target v (t >>= f) = elim (obey v t) [ Ok x ↦ target v (f x) | Err c ↦ [] ]
 
 -- under a write grant, and where the next instruction's operand lies
-abbrev pub operand_granted : (ℕ → Reading) → Bay → Registers → List ℕ → ℕ → Bool
-operand_granted reads bay r bs at = allows bay Write at && among at (target (sight bay bs) (planned reads r))
+abbrev pub operand_granted : (ℕ → Reading) → Rights → Registers → List ℕ → ℕ → Bool
+operand_granted reads rights r bs at = allows rights Write at && among at (target (sight rights bs) (planned reads r))
 
--- two stores agree on what a bay may read
-abbrev pub Agree : Bay → List ℕ → List ℕ → Type 0
-Agree bay bs cs = (at : ℕ) → allows bay Read at ≡ true → slice_index bs at ≡ slice_index cs at
+-- two stores agree on what a rights may read
+abbrev pub Agree : Rights → List ℕ → List ℕ → Type 0
+Agree rights bs cs = (at : ℕ) → allows rights Read at ≡ true → slice_index bs at ≡ slice_index cs at
 
--- a step depends on the bytes that its bay may read, and on no other
+-- a step depends on the bytes that its rights may read, and on no other
 abbrev pub Local : Type 0
-Local = (reads : ℕ → Reading) (bay : Bay) (bs cs : List ℕ) (r : Registers) → Agree bay bs cs → stepped reads r (sight bay bs) ≡ stepped reads r (sight bay cs)
+Local = (reads : ℕ → Reading) (rights : Rights) (bs cs : List ℕ) (r : Registers) → Agree rights bs cs → stepped reads r (sight rights bs) ≡ stepped reads r (sight rights cs)
 
 -- a run with j steps counted before it
 abbrev pub later : ℕ → Run → Run
@@ -70,7 +70,7 @@ followed q next = unless q.turned.stop q next
 
 -- a turn of m + n steps is a turn of m and then one of n
 abbrev pub Split : Type 0
-Split = (reads : ℕ → Reading) (bay : Bay) (m n : ℕ) (r : Registers) (bs : List ℕ) → run reads bay (m + n) 0 r bs ≡ followed (run reads bay m 0 r bs) (run reads bay n 0)
+Split = (reads : ℕ → Reading) (rights : Rights) (m n : ℕ) (r : Registers) (bs : List ℕ) → run reads rights (m + n) 0 r bs ≡ followed (run reads rights m 0 r bs) (run reads rights n 0)
 
 -- how many elements a string has: x without its sign
 abbrev pub elements : ℕ → ℕ
@@ -97,30 +97,30 @@ abbrev pub Each : (ℕ → Type 0) → List ℕ → Type 0
 Each P [] = Unit {0}
 Each P (x ∷ xs) = P x × Each P xs
 
--- the bay may read, or may write, every byte of an item
-abbrev pub Readable : Bay → Item → ℕ → Type 0
-Readable bay i at = Each (λ b. allows bay Read b ≡ true) (item_bytes i at)
+-- the rights may read, or may write, every byte of an item
+abbrev pub Readable : Rights → Item → ℕ → Type 0
+Readable rights i at = Each (λ b. allows rights Read b ≡ true) (item_bytes i at)
 
-abbrev pub Writable : Bay → Item → ℕ → Type 0
-Writable bay i at = Each (λ b. allows bay Write b ≡ true) (item_bytes i at)
+abbrev pub Writable : Rights → Item → ℕ → Type 0
+Writable rights i at = Each (λ b. allows rights Write b ≡ true) (item_bytes i at)
 
 -- two items have no byte in common
 abbrev pub Apart : Item → ℕ → Item → ℕ → Type 0
 Apart i at j at' = Each (λ b. among b (item_bytes i at) ≡ false) (item_bytes j at')
 
 -- a string instruction stands at s, its strings are granted, and what it writes is neither read by it nor the instruction itself
-pub record Movable (reads : ℕ → Reading) (bay : Bay) (name : Name) (i : Item) (from to : ℕ → ℕ) (xs : List ℕ) (r : Registers) (bs : List ℕ) : Type 0 where
+pub record Movable (reads : ℕ → Reading) (rights : Rights) (name : Name) (i : Item) (from to : ℕ → ℕ) (xs : List ℕ) (r : Registers) (bs : List ℕ) : Type 0 where
   pub word : ℕ
-  pub fetched : obey (sight bay bs) (fetch r.s) ≡ Ok word
+  pub fetched : obey (sight rights bs) (fetch r.s) ≡ Ok word
   pub read_as : reads word ≡ Defined name L 0 (pos 0)
-  pub readable : Each (λ x. Readable bay i (from x)) xs
-  pub writable : Each (λ x. Writable bay i (to x)) xs
+  pub readable : Each (λ x. Readable rights i (from x)) xs
+  pub writable : Each (λ x. Writable rights i (to x)) xs
   pub apart : Each (λ x. Each (λ x'. Apart i (to x) i (from x')) xs) xs
   pub beside : Each (λ x. Apart i (to x) half r.s) xs
 
 -- as many steps as the string has elements move it whole
 abbrev pub Moves : Name → Item → (ℕ → ℕ → ℕ) → Type 0
-Moves name i at = (reads : ℕ → Reading) (bay : Bay) (r : Registers) (bs : List ℕ) → r.s < 65536 → 0 < r.x → r.x < 65536 → Movable reads bay name i (at r.z) (at r.y) (places (elements r.x) r.x) r bs → run reads bay (elements r.x) 0 r bs ≡ record { registers = complete (advanced r); bytes = copied i (at r.z) (at r.y) bs bs (places (elements r.x) r.x); turned = record { steps = elements r.x; stop = None } }
+Moves name i at = (reads : ℕ → Reading) (rights : Rights) (r : Registers) (bs : List ℕ) → r.s < 65536 → 0 < r.x → r.x < 65536 → Movable reads rights name i (at r.z) (at r.y) (places (elements r.x) r.x) r bs → run reads rights (elements r.x) 0 r bs ≡ record { registers = complete (advanced r); bytes = copied i (at r.z) (at r.y) bs bs (places (elements r.x) r.x); turned = record { steps = elements r.x; stop = None } }
 
 abbrev pub MovesBytes : Type 0
 MovesBytes = Moves Mbs byte byte_at

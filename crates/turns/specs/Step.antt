@@ -2,11 +2,11 @@
 use Rattle.std.specs.Prelude.{ℕ, ◌+◌, ◌/◌, ◌%◌, Bool, true, false, cond, ◌&&◌, List, ℤ, Some, None, Ok, Err, Option, Result, slice_set}
 use Rattle.std.specs.Int.{w16}
 use mir.Val.{of_z}
-use Rattle.code.specs.declared.format.Format.{Format}
-use Rattle.code.specs.declared.format.Format.TheVariants.{A1, A2, A3, A4, A5, L, B}
-use Rattle.code.specs.declared.name.Name.{Name}
-use Rattle.code.specs.declared.reading.Reading.{Reading}
-use Rattle.code.specs.declared.reading.Reading.TheVariants.{Undefined, NoPattern, Defined}
+use Rattle.isa.specs.declared.format.Format.{Format}
+use Rattle.isa.specs.declared.format.Format.TheVariants.{A1, A2, A3, A4, A5, L, B}
+use Rattle.isa.specs.declared.name.Name.{Name}
+use Rattle.isa.specs.declared.reading.Reading.{Reading}
+use Rattle.isa.specs.declared.reading.Reading.TheVariants.{Undefined, NoPattern, Defined}
 use Rattle.access.specs.Access.{Sight}
 use Rattle.access.specs.declared.stop.Cause.{Cause}
 use Rattle.access.specs.declared.stop.Cause.TheVariants as cause

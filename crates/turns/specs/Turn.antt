@@ -1,8 +1,8 @@
 -- A turn: steps up to a budget, or up to a stop.
 use Rattle.std.specs.Prelude.{ℕ, zero, suc, ◌+◌, List, Some, None, Ok, Err}
-use Rattle.code.specs.declared.reading.Reading.{Reading}
+use Rattle.isa.specs.declared.reading.Reading.{Reading}
 use Rattle.access.specs.Access.{sight}
-use Rattle.access.specs.declared.bay.Bay.{Bay}
+use Rattle.access.specs.declared.rights.Rights.{Rights}
 use Rattle.access.specs.declared.stop.Stop.{Stop}
 use Rattle.machine.specs.declared.registers.Registers.{Registers}
 use Rattle.turns.specs.Step.{committed, stepped}
@@ -22,6 +22,6 @@ pub record Run : Type 0 where
   pub turned : Turned
 
 -- at most n more steps, after k
-abbrev pub run : (ℕ → Reading) → Bay → ℕ → ℕ → Registers → List ℕ → Run
-run reads bay zero k r bs = record { registers = r; bytes = bs; turned = all_spent k }
-run reads bay (suc n) k r bs = elim (stepped reads r (sight bay bs)) [ Ok e ↦ run reads bay n (k + 1) e.registers (committed bs e.pending) | Err t ↦ record { registers = r; bytes = bs; turned = stopped_after k t } ]
+abbrev pub run : (ℕ → Reading) → Rights → ℕ → ℕ → Registers → List ℕ → Run
+run reads rights zero k r bs = record { registers = r; bytes = bs; turned = all_spent k }
+run reads rights (suc n) k r bs = elim (stepped reads r (sight rights bs)) [ Ok e ↦ run reads rights n (k + 1) e.registers (committed bs e.pending) | Err t ↦ record { registers = r; bytes = bs; turned = stopped_after k t } ]

@@ -7,9 +7,9 @@ ghost use Rattle.turns.specs.Laws.{Local, Only, Unaltered, operand_granted};
 ghost use Rattle.turns.specs.Step.{answer, begun, bytes_after, committed, defined, format_a, half_into, planned, registers_after, stepped, stopped};
 ghost use Rattle.std.specs.Prelude.{◌≡◌};
 
-use access::{Bay, Cause, Place, Reach, Stop, View};
+use access::{Rights, Cause, Place, Reach, Stop, View};
 use book::Book;
-use code::{Format, Name, Reading};
+use isa::{Format, Name, Reading};
 use machine::{Mode, Pending, Registers, at_place, execute};
 use store::Store;
 
@@ -113,7 +113,7 @@ fn commit<S: Store>(store: &mut S, pending: Option<Pending>)
     }
 }
 
-// The equations of a step, without its laws. Book, registers, store and bay stay four parameters: a hall holds each of them in
+// The equations of a step, without its laws. Book, registers, store and rights stay four parameters: a hall holds each of them in
 // another place, so that one value of the four would be made for each call, and each clause would name its fields.
 #[inline(always)]
 pub(crate) fn obey_next<S: Store>(
@@ -137,16 +137,16 @@ pub fn step<S: Store>(
     book: &Book,
     registers: &mut Registers,
     store: &mut S,
-    bay: &Bay,
+    rights: &Rights,
 ) -> Result<(), Stop>
-    ensures answers { result ≡ answer (stepped (reading book.now.tables) registers.old (sight bay.now (S.Store.bytes store.old))) }
-    ensures numbers { told_of result ≡ told_of (answer (stepped (reading book.now.tables) registers.old (sight bay.now (S.Store.bytes store.old)))) }
-    ensures registers { registers.new ≡ registers_after registers.old (stepped (reading book.now.tables) registers.old (sight bay.now (S.Store.bytes store.old))) }
-    ensures bytes { S.Store.bytes store.new ≡ bytes_after (S.Store.bytes store.old) (stepped (reading book.now.tables) registers.old (sight bay.now (S.Store.bytes store.old))) }
+    ensures answers { result ≡ answer (stepped (reading book.now.tables) registers.old (sight rights.now (S.Store.bytes store.old))) }
+    ensures numbers { told_of result ≡ told_of (answer (stepped (reading book.now.tables) registers.old (sight rights.now (S.Store.bytes store.old)))) }
+    ensures registers { registers.new ≡ registers_after registers.old (stepped (reading book.now.tables) registers.old (sight rights.now (S.Store.bytes store.old))) }
+    ensures bytes { S.Store.bytes store.new ≡ bytes_after (S.Store.bytes store.old) (stepped (reading book.now.tables) registers.old (sight rights.now (S.Store.bytes store.old))) }
     ensures footing { S.Store.footing store.new ≡ S.Store.footing store.old }
     ensures stop_alters_nothing { Unaltered result registers.old registers.new (S.Store.bytes store.old) (S.Store.bytes store.new) }
-    ensures writes_its_operand { Only (operand_granted (reading book.now.tables) bay.now registers.old (S.Store.bytes store.old)) (S.Store.bytes store.old) (S.Store.bytes store.new) }
+    ensures writes_its_operand { Only (operand_granted (reading book.now.tables) rights.now registers.old (S.Store.bytes store.old)) (S.Store.bytes store.old) (S.Store.bytes store.new) }
     ensures reads_granted_bytes { Local }
 {
-    obey_next(book, registers, store, &Reach::new(bay))
+    obey_next(book, registers, store, &Reach::new(rights))
 }

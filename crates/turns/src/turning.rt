@@ -4,7 +4,7 @@ ghost use Rattle.turns.specs.Turn.{Run, all_spent, run, stopped_after};
 ghost use Rattle.std.specs.Prelude.{◌≡◌};
 
 use crate::stepping::obey_next;
-use access::{Bay, Reach, Stop};
+use access::{Rights, Reach, Stop};
 use book::Book;
 use machine::Registers;
 use store::Store;
@@ -60,14 +60,14 @@ pub fn turn<S: Store>(
     book: &Book,
     registers: &mut Registers,
     store: &mut S,
-    bay: &Bay,
+    rights: &Rights,
     budget: u16,
 ) -> Turned
-    ensures runs { ◌≡◌ {A = Run} (record { registers = registers.new; bytes = S.Store.bytes store.new; turned = result }) (run (reading book.now.tables) bay.now budget 0 registers.old (S.Store.bytes store.old)) }
+    ensures runs { ◌≡◌ {A = Run} (record { registers = registers.new; bytes = S.Store.bytes store.new; turned = result }) (run (reading book.now.tables) rights.now budget 0 registers.old (S.Store.bytes store.old)) }
     ensures footing { S.Store.footing store.new ≡ S.Store.footing store.old }
     ensures turns_join { Split }
     ensures moves_byte_strings { MovesBytes }
     ensures moves_halfword_strings { MovesHalfwords }
 {
-    run_steps(book, registers, store, &Reach::new(bay), budget)
+    run_steps(book, registers, store, &Reach::new(rights), budget)
 }

@@ -28,12 +28,17 @@ in_bits bits_of o = record { value = bits_of o.value; negative = o.negative; zer
 abbrev pub beyond : Width → ℕ → Bool
 beyond w n = nat_le (2 ^ bits w) n
 
--- the carry, or the borrow, out of the sign bit
-abbrev pub sum : Width → ℕ → ℕ → Outcome ℕ
-sum w a b = outcome w (to_z w a +ℤ to_z w b) (beyond w (a + b))
+-- a number of length v in a register of length w: extended by its sign, or its low part
+abbrev pub resized : Width → Width → ℕ → ℕ
+resized w v b = cut w (to_z v b)
 
-abbrev pub difference : Width → ℕ → ℕ → Outcome ℕ
-difference w a b = outcome w (to_z w a -ℤ to_z w b) (nat_lt a b)
+-- of a number of length w and one of length v, in a register of length w: the true result is of the whole of both, and the carry, or the
+-- borrow, is that out of the sign bit, with the second number resized
+abbrev pub sum : Width → Width → ℕ → ℕ → Outcome ℕ
+sum w v a b = outcome w (to_z w a +ℤ to_z v b) (beyond w (a + resized w v b))
+
+abbrev pub difference : Width → Width → ℕ → ℕ → Outcome ℕ
+difference w v a b = outcome w (to_z w a -ℤ to_z v b) (nat_lt a (resized w v b))
 
 abbrev pub product : Width → ℕ → ℕ → Bool → Outcome ℕ
 product w a b c = outcome w (to_z w a *ℤ to_z w b) c

@@ -1,4 +1,4 @@
-ghost use Rattle.word.specs.Bytes.{half, full, extended};
+ghost use Rattle.word.specs.Bytes.{half, full};
 ghost use Rattle.std.specs.Prelude.{◌≡◌};
 
 // A halfword of two bytes, the most significant first.
@@ -13,11 +13,4 @@ pub fn full_of(high: u16, low: u16) -> u32
     ensures { result ≡ full high low }
 {
     u32::from(high) << 16 | u32::from(low)
-}
-
-// A halfword as a fullword of the same sign.
-pub fn extend(half: u16) -> u32
-    ensures { result ≡ extended half }
-{
-    i32::from(half.cast_signed()).cast_unsigned()
 }

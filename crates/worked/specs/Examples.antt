@@ -3,16 +3,16 @@ use Rattle.std.specs.Prelude.{ℕ, ◌+◌, true, false, List, [], ◌∷◌, re
 use Rattle.book.specs.Read.{new_tables}
 use Rattle.book.specs.Readings.{reading}
 use Rattle.book.specs.declared.tables.Tables.{Tables}
-use Rattle.code.specs.declared.format.Format.TheVariants.{A1, A2, A4, L}
-use Rattle.code.specs.declared.format.Format.TheVariants as format
-use Rattle.code.specs.declared.name.Name.{Name}
-use Rattle.code.specs.declared.name.Name.TheVariants.{Adx, Bitl, Dx, Ld, Ml}
-use Rattle.code.specs.declared.name.Name.TheVariants as name
-use Rattle.code.specs.declared.reading.Reading.{Reading}
-use Rattle.code.specs.declared.reading.Reading.TheVariants.{Defined}
+use Rattle.isa.specs.declared.format.Format.TheVariants.{A1, A2, A4, L}
+use Rattle.isa.specs.declared.format.Format.TheVariants as format
+use Rattle.isa.specs.declared.name.Name.{Name}
+use Rattle.isa.specs.declared.name.Name.TheVariants.{Adx, Bitl, Dx, Ld, Ml}
+use Rattle.isa.specs.declared.name.Name.TheVariants as name
+use Rattle.isa.specs.declared.reading.Reading.{Reading}
+use Rattle.isa.specs.declared.reading.Reading.TheVariants.{Defined}
 use Rattle.access.specs.Access.{sight}
-use Rattle.access.specs.declared.bay.Bay.{Bay}
-use Rattle.access.specs.declared.bay.Kind.TheVariants.{Write}
+use Rattle.access.specs.declared.rights.Rights.{Rights}
+use Rattle.access.specs.declared.rights.Kind.TheVariants.{Write}
 use Rattle.access.specs.declared.stop.Cause.{Cause}
 use Rattle.machine.specs.Act.{still}
 use Rattle.machine.specs.Address.{formed}
@@ -29,8 +29,8 @@ abbrev pub tables : Tables
 tables = record { a = slice_set new_tables.a 17 (Some Ld); l = new_tables.l; b = slice_set new_tables.b 1 (Some name.B); patterns = new_tables.patterns }
 
 -- one write grant for the whole store
-abbrev pub bay : Bay
-bay = record { grants = Some (record { kind = Write; first = 0; last = 65535 }) ∷ None ∷ None ∷ None ∷ None ∷ None ∷ [] }
+abbrev pub rights : Rights
+rights = record { grants = Some (record { kind = Write; first = 0; last = 65535 }) ∷ None ∷ None ∷ None ∷ None ∷ None ∷ [] }
 
 -- a store with one halfword in it; what lies past the list is zero
 abbrev pub holding : ℕ → ℕ → ℕ → List ℕ
@@ -52,28 +52,28 @@ pub data Example : Type 0 where
 
 -- an instruction in format A1 with its halfword operand at 2
 abbrev pub on : Name → ℕ → ℕ → Registers → Result Effect Cause
-on n high low r = does n (mode A1 0 (pos 1)) r bay (holding 2 high low)
+on n high low r = does n (mode A1 0 (pos 1)) r rights (holding 2 high low)
 
 -- MBS at 1000, and the bytes 200 and 201
 abbrev pub strings : List ℕ
 strings = slice_set (slice_set (holding 1000 0x27 0x00) 200 77) 201 88
 
 abbrev pub moved : ℕ → Example
-moved steps = let bs = (run (reading tables) bay steps 0 (with_s (with_z (with_y (with_x zeros 65534) 101) 201) 1000) strings).bytes in bytes (slice_index bs 100) (slice_index bs 101)
+moved steps = let bs = (run (reading tables) rights steps 0 (with_s (with_z (with_y (with_x zeros 65534) 101) 201) 1000) strings).bytes in bytes (slice_index bs 100) (slice_index bs 101)
 
 abbrev pub examples : List Example
 examples =
     reads (reading tables 0x040b)
-    ∷ registers (run (reading tables) bay 1 0 (with_s zeros 1000) (holding 1000 0x04 0x0b)).registers
+    ∷ registers (run (reading tables) rights 1 0 (with_s zeros 1000) (holding 1000 0x04 0x0b)).registers
     ∷ reads (reading tables 0x4483)
-    ∷ address (obey (sight bay []) (formed (mode A2 1 (pos 3)) 2 (with_s zeros 202)))
+    ∷ address (obey (sight rights []) (formed (mode A2 1 (pos 3)) 2 (with_s zeros 202)))
     ∷ reads (reading tables 0x4702)
-    ∷ address (obey (sight bay (holding 404 2 88)) (formed (mode A4 0 (pos 2)) 2 (with_l (with_x zeros 65535) 400)))
-    ∷ effect (does Bitl (mode L 0 (pos 0xac)) zeros bay [])
+    ∷ address (obey (sight rights (holding 404 2 88)) (formed (mode A4 0 (pos 2)) 2 (with_l (with_x zeros 65535) 400)))
+    ∷ effect (does Bitl (mode L 0 (pos 0xac)) zeros rights [])
     ∷ effect (on Dx 0 2 (with_x zeros 65529))
     ∷ effect (on Dx 255 255 (with_x zeros 32768))
     ∷ effect (on Adx 0 1 (with_x zeros 32767))
-    ∷ effect (does Ml (mode L 0 (pos 2)) (with_a zeros 0x80000000) bay [])
+    ∷ effect (does Ml (mode L 0 (pos 2)) (with_a zeros 0x80000000) rights [])
     ∷ moved 1
     ∷ moved 2
     ∷ []

@@ -1,5 +1,5 @@
 use Rattle.std.proofs.Common.{◌∙◌, ap, slice_index_or}
-use Rattle.code.specs.declared.reading.Reading.TheVariants.{Undefined}
+use Rattle.isa.specs.declared.reading.Reading.TheVariants.{Undefined}
 use Rattle.book.proofs.Looked.{looked}
 use Rattle.book.proofs.book.Book.look_up.Goals as goal
 

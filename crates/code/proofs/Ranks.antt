@@ -1,9 +1,0 @@
-use Rattle.std.proofs.Common.{◌≡◌}
-use denote.Enum.Bare.{tag_one}
-use Rattle.code.specs.declared.name.Name.{Name}
-use Rattle.code.specs.contracts.name.Name.{the_type}
-use Rattle.code.specs.Names.{rank}
-
--- names of one rank are one name
-pub rank_tells : (m n : Name) → rank m ≡ rank n → m ≡ n
-rank_tells m n e = tag_one the_type tt m n e

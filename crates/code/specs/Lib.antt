@@ -1,4 +1,0 @@
-pub mod Spelling
-pub mod Names
-pub mod Formats
-pub mod Readings

@@ -1,0 +1,3 @@
+pub mod Names
+pub mod Formats
+pub mod Readings
