@@ -34,11 +34,18 @@ impl Terms {
         }
     }
 
+    #[inline(always)]
+    fn exact(self) -> i64
+        ensures { result ≡ Address.exact self }
+    {
+        i64::from(self.start) + self.index.signed() * i64::from(self.scale)
+    }
+
     /// The exact sum, cut to 16 bits.
     #[inline(always)]
     pub fn wrapped(self) -> u16
         ensures { result ≡ Address.wrapped self }
     {
-        u16::cut(i64::from(self.start) + self.index.signed() * i64::from(self.scale))
+        u16::cut(self.exact())
     }
 }
