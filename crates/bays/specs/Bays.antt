@@ -1,15 +1,15 @@
 -- The bays by their numbers, and what calls make of one.
-use Rattle.std.specs.Prelude.{ℕ, zero, suc, ◌-◌, Bool, false, ◌&&◌, List, [], ◌∷◌, replicate, Some, None, Ok, Err, Option, Result, nat_le, slice_index_or, slice_set, if◌then◌else◌}
+use Rattle.std.specs.Prelude.{ℕ, zero, suc, ◌-◌, Bool, false, ◌&&◌, List, [], ◌∷◌, replicate, Some, None, Ok, Err, Option, Result, is_some, nat_le, slice_index_or, slice_set, if◌then◌else◌}
 use Rattle.std.specs.List.{list_any}
 use Rattle.access.specs.Access.{rights_of}
 use Rattle.access.specs.declared.rights.Grant.{Grant}
 use Rattle.access.specs.declared.stop.Stop.{Stop}
 use Rattle.machine.specs.declared.registers.Registers.{Registers}
-use Rattle.bays.specs.Grants.{added, checked, clashes_any, excludes}
-use Rattle.bays.specs.Stages.{at_stage, is_free}
+use Rattle.bays.specs.Grants.{clashes_any, excludes, vacant}
+use Rattle.bays.specs.Stages.{at_stage}
 use Rattle.bays.specs.declared.bay.Bay.{Bay}
 use Rattle.bays.specs.declared.refusal.Refusal.{Refusal}
-use Rattle.bays.specs.declared.refusal.Refusal.TheVariants.{OtherStage, Taken}
+use Rattle.bays.specs.declared.refusal.Refusal.TheVariants.{OtherStage}
 use Rattle.bays.specs.declared.stage.Stage.{Stage}
 use Rattle.bays.specs.declared.stage.Stage.TheVariants.{Preparing}
 
@@ -30,29 +30,16 @@ with_stage b s = record b { stage = Some s }
 abbrev pub opened : Bay
 opened = with_stage free Preparing
 
+-- a grant at a place, of the six that there are
+abbrev pub with_grant_at : Bay → ℕ → Grant → Bay
+with_grant_at b place g = record b { rights = rights_of (slice_set (ranges b) place (Some g)) }
+
+-- a grant at the first vacant place
 abbrev pub with_grant : Bay → Grant → Bay
-with_grant b g = record b { rights = rights_of (added g (ranges b)) }
+with_grant b g = with_grant_at b (vacant (ranges b)) g
 
 abbrev pub with_program : Bay → Registers → Option Stop → Bay
 with_program b r t = record b { registers = r; stop = t }
-
--- what a call answers that may be refused, and the bay after it; a refusal alters nothing
-pub record BayEnd : Type 0 where
-  pub answer : Result (Unit {0}) Refusal
-  pub bay : Bay
-
-abbrev pub bay_end : Result (Unit {0}) Refusal → Bay → BayEnd
-bay_end a b = record { answer = a; bay = b }
-
-abbrev pub opening : Bay → BayEnd
-opening b = if is_free b.stage then bay_end (Ok tt) opened else bay_end (Err Taken) b
-
-abbrev pub granting_by : Result ℕ Refusal → Grant → Bay → BayEnd
-granting_by (Ok place) g b = bay_end (Ok tt) (with_grant b g)
-granting_by (Err e) g b = bay_end (Err e) b
-
-abbrev pub granting : Grant → Bool → Bay → BayEnd
-granting g clash b = granting_by (checked g (ranges b) clash) g b
 
 -- bays are numbered from 1
 unfoldable pub bay_at : List Bay → ℕ → Bay
@@ -63,9 +50,13 @@ bay_at l (suc k) = slice_index_or l k free
 abbrev pub place_of : ℕ → Option ℕ
 place_of n = if nat_le 1 n && nat_le n 8 then Some (n - 1) else None
 
--- the place of a bay that is at the stage that a call wants
-abbrev pub entered : Stage → List Bay → ℕ → Result ℕ Refusal
-entered s l n = if at_stage s (bay_at l n).stage then Ok (n - 1) else Err OtherStage
+-- the bay of a number, if a bay has it
+abbrev pub numbered : List Bay → ℕ → Option Bay
+numbered l n = if is_some (place_of n) then Some (bay_at l n) else None
+
+-- the bay, at the stage that a call wants
+abbrev pub entered : Stage → List Bay → ℕ → Result Bay Refusal
+entered s l n = if at_stage s (bay_at l n).stage then Ok (bay_at l n) else Err OtherStage
 
 unfoldable pub put_bay : List Bay → ℕ → Bay → List Bay
 put_bay l zero b = l

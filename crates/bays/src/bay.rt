@@ -1,12 +1,11 @@
 ghost use Rattle.bays.specs.Bays;
 ghost use Rattle.bays.specs.Grants.{clashes_any};
-ghost use Rattle.bays.specs.Bays.{bay_end, granting, opening, with_program, with_stage};
+ghost use Rattle.bays.specs.Bays.{opened, with_grant_at, with_program, with_stage};
 ghost use Rattle.bays.specs.Stages.{at_stage};
 ghost use Rattle.bays.specs.declared.stage.Stage;
-ghost use Rattle.std.specs.Prelude.{◌≡◌, None};
+ghost use Rattle.std.specs.Prelude.{◌≡◌};
 
-use crate::grants::{check_grant, clash_with_any};
-use crate::refusal::Refusal;
+use crate::grants::clash_with_any;
 use crate::stage::Stage;
 use access::{Grant, Rights, Stop};
 use machine::Registers;
@@ -55,29 +54,25 @@ impl Bay {
         clash_with_any(grant, self.ranges())
     }
 
-    /// A free bay begins its preparation.
-    pub fn open(&mut self) -> Result<(), Refusal>
-        ensures { bay_end result self.new ≡ opening self.old }
+    /// Preparation begins: as a free bay, but for the stage.
+    pub fn open(&mut self)
+        ensures { self.new ≡ opened }
     {
-        if self.stage.is_some() {
-            return Err(Refusal::Taken);
-        }
         *self = Bay {
             stage: Some(Stage::Preparing),
             ..Bay::free()
         };
-        Ok(())
     }
 
-    /// One grant more, which clashes with a range of some bay, or does not.
-    pub fn grant(&mut self, grant: Grant, clashes: bool) -> Result<(), Refusal>
-        ensures { bay_end result self.new ≡ granting grant clashes self.old }
+    /// A grant at a place; past the six there is none.
+    pub fn add(&mut self, place: usize, grant: Grant)
+        ensures { self.new ≡ with_grant_at self.old place grant }
     {
         let mut grants = self.rights.grants;
-        let place = check_grant(grant, self.ranges(), clashes)?;
-        grants[place] = Some(grant);
+        if place < 6 {
+            grants[place] = Some(grant);
+        }
         self.rights = Rights::new(grants);
-        Ok(())
     }
 
     /// The end of preparation.
@@ -87,11 +82,11 @@ impl Bay {
         self.stage = Some(Stage::Sealed);
     }
 
-    /// All registers and markers; a stop that stands is lifted.
-    pub fn set(&mut self, registers: Registers)
-        ensures { self.new ≡ with_program self.old registers None }
+    /// The program's registers and markers, and the stop that stands, if one does.
+    pub fn set(&mut self, registers: Registers, stop: Option<Stop>)
+        ensures { self.new ≡ with_program self.old registers stop }
     {
         self.registers = registers;
-        self.stop = None;
+        self.stop = stop;
     }
 }

@@ -1,10 +1,12 @@
-ghost use Rattle.bays.specs.Bays.{bay_at, clash, free};
-ghost use Rattle.std.specs.Prelude.{◌≡◌, ◌+◌, ◌<◌, length, replicate, slice_index_or, IfOk, IfSome};
+ghost use Rattle.bays.specs.Bays.{bay_at, clash, free, numbered, opened, put_bay, with_grant_at, with_program, with_stage};
+ghost use Rattle.bays.specs.declared.stage.Stage;
+ghost use Rattle.std.specs.Prelude.{◌≡◌, ◌+◌, ◌<◌, length, replicate, IfSome};
 
 use crate::bay::Bay;
 use crate::refusal::Refusal;
 use crate::stage::Stage;
-use access::Grant;
+use access::{Grant, Stop};
+use machine::Registers;
 
 /// The bays 1 to 8. The bay of a number stands at a place, one less.
 #[derive(Drop)]
@@ -23,8 +25,8 @@ impl Table {
         }
     }
 
-    /// The place of a number, if a bay has it.
-    pub fn place_of(&self, number: u8) -> Option<usize>
+    // The place of a number, if a bay has it.
+    fn place_of(&self, number: u8) -> Option<usize>
         ensures is { result ≡ Rattle.bays.specs.Bays.place_of number }
         ensures within { IfSome result (λ p. p < length self.now.bays) }
         ensures named { IfSome result (λ p. p + 1 ≡ number) }
@@ -32,17 +34,23 @@ impl Table {
         (1..=8).contains(&number).then(|| usize::from(number) - 1)
     }
 
-    /// The place of a bay that is at the stage that a call wants.
-    pub fn entered(&self, number: u8, wanted: Stage) -> Result<usize, Refusal>
-        ensures is { result ≡ Rattle.bays.specs.Bays.entered wanted self.now.bays number }
-        ensures within { IfOk result (λ p. p < length self.now.bays) }
-        ensures named { IfOk result (λ p. p + 1 ≡ number) }
+    /// The bay of a number, as it is now.
+    pub fn get(&self, number: u8) -> Option<Bay>
+        ensures { result ≡ numbered self.now.bays number }
     {
-        let Some(place) = self.place_of(number) else {
+        let place = self.place_of(number)?;
+        Some(self.bays[place])
+    }
+
+    /// The bay of a number, at the stage that a call wants, as it is now.
+    pub fn entered(&self, number: u8, wanted: Stage) -> Result<Bay, Refusal>
+        ensures { result ≡ Rattle.bays.specs.Bays.entered wanted self.now.bays number }
+    {
+        let Some(bay) = self.get(number) else {
             return Err(Refusal::OtherStage);
         };
-        if self.bays[place].is_at(wanted) {
-            Ok(place)
+        if bay.is_at(wanted) {
+            Ok(bay)
         } else {
             Err(Refusal::OtherStage)
         }
@@ -53,5 +61,53 @@ impl Table {
         ensures { result ≡ clash grant self.now.bays }
     {
         self.bays.iter().any(|bay| bay.clashes(grant))
+    }
+
+    /// The bay of a number begins its preparation. Here and below nothing is done where no bay has the number.
+    pub fn open(&mut self, number: u8)
+        ensures { self.new.bays ≡ put_bay self.old.bays number opened }
+    {
+        if let Some(place) = self.place_of(number) {
+            self.bays[place].open();
+        }
+    }
+
+    /// The bay of a number gets a grant, at a place.
+    pub fn add(&mut self, number: u8, place: usize, grant: Grant)
+        ensures { self.new.bays
+            ≡ put_bay self.old.bays number (with_grant_at (bay_at self.old.bays number) place grant) }
+    {
+        if let Some(at) = self.place_of(number) {
+            self.bays[at].add(place, grant);
+        }
+    }
+
+    /// The end of a bay's preparation.
+    pub fn seal(&mut self, number: u8)
+        ensures { self.new.bays
+            ≡ put_bay self.old.bays number (with_stage (bay_at self.old.bays number) Stage.Sealed) }
+    {
+        if let Some(place) = self.place_of(number) {
+            self.bays[place].seal();
+        }
+    }
+
+    /// A bay's registers and markers, and the stop that stands, if one does.
+    pub fn set(&mut self, number: u8, registers: Registers, stop: Option<Stop>)
+        ensures { self.new.bays
+            ≡ put_bay self.old.bays number (with_program (bay_at self.old.bays number) registers stop) }
+    {
+        if let Some(place) = self.place_of(number) {
+            self.bays[place].set(registers, stop);
+        }
+    }
+
+    /// The bay of a number is free again.
+    pub fn free(&mut self, number: u8)
+        ensures { self.new.bays ≡ put_bay self.old.bays number free }
+    {
+        if let Some(place) = self.place_of(number) {
+            self.bays[place] = Bay::free();
+        }
     }
 }
