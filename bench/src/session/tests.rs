@@ -102,7 +102,7 @@ const BAY_1: [(&str, &str); 4] = [
     ("copy 1 200 2", "bytes 2700"),
 ];
 const BAY_2: [(&str, &str); 3] = [
-    ("load 2 300 12000000", "done"),
+    ("load 2 300 12001203", "done"),
     ("set 2 0 0 0 0 0 300 0 0 0 0 0 0", "done"),
     ("turn 2 50", "stopped 1 1 302"),
 ];
