@@ -1,4 +1,7 @@
 pub mod Search
-pub mod Next
+pub mod Lines
+pub mod Faults
+pub mod LineRule
+pub mod TakeLine
 pub mod Numbers
 pub mod Spelling
