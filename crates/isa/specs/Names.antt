@@ -73,44 +73,36 @@ spelled Bitl = codes "BITL"
 abbrev pub rank : Name → ℕ
 rank n = tag_of the_type n
 
-abbrev pub names_a : List Name
-names_a = Ldb ∷ Ld ∷ Ldw ∷ Ldx ∷ Stb ∷ St ∷ Stw ∷ Stx ∷ Ad ∷ Adw ∷ Sb ∷ Sbw ∷ Adx ∷ Sbx ∷ Cp ∷ Cpw ∷ Cpx ∷ Nw ∷ Nx ∷ Mx ∷ Dx ∷ Ldy ∷ Sty ∷ Ady ∷ Sby ∷ Ldz ∷ Stz ∷ Adz ∷ Sbz ∷ Bi ∷ Bli ∷ []
+abbrev pub a_names : List Name
+a_names = Ldb ∷ Ld ∷ Ldw ∷ Ldx ∷ Stb ∷ St ∷ Stw ∷ Stx ∷ Ad ∷ Adw ∷ Sb ∷ Sbw ∷ Adx ∷ Sbx ∷ Cp ∷ Cpw ∷ Cpx ∷ Nw ∷ Nx ∷ Mx ∷ Dx ∷ Ldy ∷ Sty ∷ Ady ∷ Sby ∷ Ldz ∷ Stz ∷ Adz ∷ Sbz ∷ Bi ∷ Bli ∷ []
 
-abbrev pub names_l : List Name
-names_l = Ldl ∷ Adl ∷ Sbl ∷ Cpl ∷ Nl ∷ Ml ∷ Bitx ∷ Bz ∷ Bnz ∷ Bn ∷ Bnn ∷ Bca ∷ Bof ∷ []
+abbrev pub l_names : List Name
+l_names = Ldl ∷ Adl ∷ Sbl ∷ Cpl ∷ Nl ∷ Ml ∷ Bitx ∷ Bz ∷ Bnz ∷ Bn ∷ Bnn ∷ Bca ∷ Bof ∷ []
 
-abbrev pub names_b : List Name
-names_b = B ∷ Bl ∷ []
+abbrev pub b_names : List Name
+b_names = B ∷ Bl ∷ []
 
 -- the names that stand in no book
-abbrev pub names_fixed : List Name
-names_fixed = Mbs ∷ Cpbs ∷ Trbs ∷ Scbs ∷ Mhs ∷ Rk ∷ Hrk ∷ Sfn ∷ Sim ∷ Sfm ∷ Bitl ∷ []
+abbrev pub fixed_names : List Name
+fixed_names = Mbs ∷ Cpbs ∷ Trbs ∷ Scbs ∷ Mhs ∷ Rk ∷ Hrk ∷ Sfn ∷ Sim ∷ Sfm ∷ Bitl ∷ []
 
 -- the names that a letter has in a code book
 abbrev pub names_of : Letter → List Name
-names_of letter.A = names_a
-names_of letter.L = names_l
-names_of letter.B = names_b
+names_of letter.A = a_names
+names_of letter.L = l_names
+names_of letter.B = b_names
 
 -- the name of a letter that is spelled so
-unfoldable pub named : Letter → List ℕ → Option Name
-named l s = first spelled (names_of l) s
+unfoldable pub name_under : Letter → List ℕ → Option Name
+name_under l s = first spelled (names_of l) s
 
-abbrev pub name_a : List ℕ → Option Name
-name_a s = named letter.A s
-
-abbrev pub name_l : List ℕ → Option Name
-name_l s = named letter.L s
-
-abbrev pub name_b : List ℕ → Option Name
-name_b s = named letter.B s
-
-unfoldable pub name_fixed : List ℕ → Option Name
-name_fixed s = first spelled names_fixed s
+-- the fixed name that is spelled so
+unfoldable pub fixed_name_of : List ℕ → Option Name
+fixed_name_of s = first spelled fixed_names s
 
 -- the name that is spelled so, of all
 abbrev pub name_of : List ℕ → Option Name
-name_of s = option_or (option_or (option_or (name_a s) (name_l s)) (name_b s)) (name_fixed s)
+name_of s = option_or (option_or (option_or (name_under letter.A s) (name_under letter.L s)) (name_under letter.B s)) (fixed_name_of s)
 
 -- the same, or that there is none
 abbrev pub name_read : List ℕ → Result Name UnknownName
