@@ -55,4 +55,8 @@ parted i (p ∷ ps) = free i p ps && parted (i + 1) ps
 
 -- every number and name is legal, no name stands twice, every pattern has its length, and none begins another
 abbrev pub sound : Tables → Bool
-sound t = (entries legal_a 0 t.a && apart t.a) && ((entries legal_l 0 t.l && apart t.l) && ((entries legal_b 0 t.b && apart t.b) && (entries legal_pattern 0 t.patterns && parted 0 t.patterns)))
+sound t =
+    (entries legal_a 0 t.a && apart t.a)
+    && ((entries legal_l 0 t.l && apart t.l)
+    && ((entries legal_b 0 t.b && apart t.b)
+    && (entries legal_pattern 0 t.patterns && parted 0 t.patterns)))

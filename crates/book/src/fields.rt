@@ -1,5 +1,5 @@
 ghost use Rattle.std.specs.Prelude.{◌≡◌};
-ghost use Rattle.book.specs.Columns.{three, texts};
+ghost use Rattle.book.specs.Columns.{line_fields, field_texts};
 
 use text::cut;
 
@@ -12,8 +12,9 @@ pub struct Fields<'a> {
 }
 
 // A line has just three fields, none of them empty, and every tab parts two fields.
+#[tactic(auto, using(crate::proofs::Columns::by_cuts))]
 pub fn fields_by_tab(line: &[u8]) -> Option<Fields<'_>>
-    ensures { texts result ≡ three line.now }
+    ensures { field_texts result ≡ line_fields line.now }
 {
     let (letter, rest) = cut(line, b'\t')?;
     let (name, value) = cut(rest, b'\t')?;

@@ -1,8 +1,7 @@
-ghost use Rattle.std.specs.Prelude.{◌≡◌, ◌<◌, length, position, if◌then◌else◌, IfSome, Some, Ok, Err, slice_set};
-ghost use Rattle.book.specs.Rows.{is_name, has_name, taken};
-ghost use Rattle.book.specs.declared.refused.Fault.TheVariants.{Repeated};
+ghost use Rattle.std.specs.Prelude.{◌≡◌, ◌<◌, length, position, IfSome};
+ghost use Rattle.book.specs.Rows.{is_name, has_name, entered};
 
-use crate::refused::Fault;
+use crate::fault::Fault;
 use isa::Name;
 
 fn is_entry(entry: &Option<Name>, name: Name) -> bool
@@ -28,8 +27,7 @@ pub fn place_of(table: &[Option<Name>], name: Name) -> Option<usize>
 // Enters the name at its number, if both are free. A number that was read becomes a place by `as`: the library has no `From` for the two.
 pub fn enter(table: &mut [Option<Name>], name: Name, number: u32) -> Result<(), Fault>
     requires { number < length table.old }
-    ensures answer { result ≡ (if taken table.old name number then Err Repeated else Ok tt) }
-    ensures after { table.new ≡ (if taken table.old name number then table.old else slice_set table.old number (Some name)) }
+    ensures { (result, table.new) ≡ entered table.old name number }
 {
     if table[number as usize].is_some() || has(table, name) {
         return Err(Fault::Repeated);

@@ -1,12 +1,13 @@
 -- What a text comes to, by the line that comes next.
 use Rattle.std.proofs.Common.{◌≡◌, ℕ, suc, ◌+◌, false, List, [], ◌∷◌, length, Some, None, Ok, Err, Option, Result, refl, sym, ap, ◌∙◌, subst, arith}
-use Rattle.std.proofs.lemmas.Bool.{ne_eqb}
+use Rattle.std.proofs.lemmas.Bool.{cond_both, ne_eqb}
 use Rattle.text.specs.declared.fault.AtLine.{AtLine}
-use Rattle.text.specs.Search.{Bytes, cut_at, empty}
+use Rattle.text.specs.Search.{Bytes, cut_at, empty, parts}
 use Rattle.text.specs.Lines.{Rest, Next, a_line, unended, the_end, next, next_by_cut}
 use Rattle.text.specs.Faults.{at_line}
+use Rattle.text.specs.Results.{◌>>=◌}
 use Rattle.text.specs.LineRule.{LineRule, parts_read, rest_read}
-use Rattle.text.specs.TakeLine.{bind, outcome}
+use Rattle.text.specs.TakeLine.{outcome}
 use Rattle.text.proofs.Parts.{by_cut, parts-cut}
 
 module _ {S R : Type 0} (r : LineRule S R) where
@@ -32,10 +33,20 @@ module _ {S R : Type 0} (r : LineRule S R) where
   rest_read-next s rest rest' o h = by_text s rest.line rest.text ∙ ap (read_on s) (sym h)
 
 -- a line was taken, or turned away
-pub bind-taken : {S F R : Type 0} (n : ℕ) (q : Result (Unit {0}) F) (u : Unit {0}) (s : S) (r : Result S F) (rest : S → Result R (AtLine F)) → outcome q s ≡ r → Ok u ≡ at_line n q → bind (at_line n r) rest ≡ rest s
-bind-taken n (Ok v) u s r rest h e = ap (λ o. bind (at_line n o) rest) (sym h)
-bind-taken n (Err f) u s r rest h e = let z : ◌≡◌ {A = ℕ} 0 1 = cc in absurd (omega arith)
+pub then-taken : {S F R : Type 0} (n : ℕ) (q : Result (Unit {0}) F) (u : Unit {0}) (s : S) (r : Result S F) (rest : S → Result R (AtLine F)) → outcome q s ≡ r → Ok u ≡ at_line n q → (at_line n r >>= rest) ≡ rest s
+then-taken n (Ok v) u s r rest h e = ap (λ o. at_line n o >>= rest) (sym h)
+then-taken n (Err f) u s r rest h e = let z : ◌≡◌ {A = ℕ} 0 1 = cc in absurd (omega arith)
 
-pub bind-turned_away : {S F R : Type 0} (n : ℕ) (q : Result (Unit {0}) F) (f : AtLine F) (s : S) (r : Result S F) (rest : S → Result R (AtLine F)) → outcome q s ≡ r → Err f ≡ at_line n q → bind (at_line n r) rest ≡ Err f
-bind-turned_away n (Ok v) f s r rest h e = let z : ◌≡◌ {A = ℕ} 0 1 = cc in absurd (omega arith)
-bind-turned_away n (Err g) f s r rest h e = let q : record { fault = g; line = n } ≡ f = cc in ap (λ o. bind (at_line n o) rest) (sym h) ∙ ap Err q
+pub then-turned_away : {S F R : Type 0} (n : ℕ) (q : Result (Unit {0}) F) (f : AtLine F) (s : S) (r : Result S F) (rest : S → Result R (AtLine F)) → outcome q s ≡ r → Err f ≡ at_line n q → (at_line n r >>= rest) ≡ Err f
+then-turned_away n (Ok v) f s r rest h e = let z : ◌≡◌ {A = ℕ} 0 1 = cc in absurd (omega arith)
+then-turned_away n (Err g) f s r rest h e = let q : record { fault = g; line = n } ≡ f = cc in ap (λ o. at_line n o >>= rest) (sym h) ∙ ap Err q
+
+-- what holds at the end and at an unended line, and at a line where it holds of the rest, holds of the whole
+module _ {S R : Type 0} (r : LineRule S R) (P : S → R → Type 0) (end : (n : ℕ) (s : S) → P s (r.end n s)) (unended : (n : ℕ) (s : S) → P s (r.unended n)) (line : (n : ℕ) (s : S) (l : Bytes) (k : S → R) → ((s' : S) → P s' (k s')) → P s (r.line n s l k)) where
+  by_lines : (ls : List Bytes) (n : ℕ) (s : S) → P s (parts_read r n s ls)
+  by_lines [] n s = end n s
+  by_lines (l ∷ []) n s = cond_both (empty l) (r.end n s) (r.unended n) (P s) (λ _. end n s) (λ _. unended n s)
+  by_lines (l ∷ m ∷ ms) n s = line n s l (λ s'. parts_read r (n + 1) s' (m ∷ ms)) (λ s'. by_lines (m ∷ ms) (n + 1) s')
+
+  pub rest_read-holds : (s : S) (rest : Rest) → P s (rest_read r s rest)
+  rest_read-holds s rest = by_lines (parts 10 rest.text) rest.line s

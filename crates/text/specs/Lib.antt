@@ -1,5 +1,6 @@
 pub mod Search
 pub mod Lines
+pub mod Results
 pub mod Faults
 pub mod LineRule
 pub mod TakeLine

@@ -4,12 +4,8 @@ use Rattle.text.specs.declared.fault.AtLine.{AtLine}
 use Rattle.text.specs.Search.{Bytes}
 use Rattle.text.specs.Lines.{whole}
 use Rattle.text.specs.Faults.{at_line}
+use Rattle.text.specs.Results.{◌>>=◌}
 use Rattle.text.specs.LineRule.{LineRule, rest_read}
-
--- the first failure, or what follows
-abbrev pub bind : {T U E : Type 0} → Result T E → (T → Result U E) → Result U E
-bind (Ok x) f = f x
-bind (Err e) f = Err e
 
 -- what is said after an answer, or the fault
 abbrev pub outcome : {S F : Type 0} → Result (Unit {0}) F → S → Result S F
@@ -24,7 +20,7 @@ whole_outcome (Err f) s = Err f
 -- a rule for one line, as one for the text: what all lines say, and the number of the line after the last
 abbrev pub taking : {S F : Type 0} → (S → Bytes → Result S F) → F → LineRule S (Result (S × ℕ) (AtLine F))
 taking rule fault = record {
-  line = λ n s l rest. bind (at_line n (rule s l)) rest;
+  line = λ n s l rest. at_line n (rule s l) >>= rest;
   end = λ n s. Ok (s, n);
   unended = λ n. at_line n (Err fault);
 }

@@ -30,7 +30,8 @@ pub fn take_lines<'a, T: TakeLine<'a>>(
     taker: &mut T,
     text: &'a [u8],
 ) -> Result<usize, AtLine<T::Fault>>
-    ensures { whole_outcome result (T.said taker.new) ≡ lines_taken T.line_rule T.unended (T.said taker.old) text.now }
+    ensures { whole_outcome result (T.said taker.new)
+        ≡ lines_taken T.line_rule T.unended (T.said taker.old) text.now }
 {
     let mut lines = Lines::new(text);
     // A `loop`, since each of the three things that may come next ends or goes on in its own way.

@@ -1,12 +1,14 @@
 ghost use Rattle.std.specs.Prelude.{◌≡◌, ◌+◌, ◌*◌, ◌^◌, ◌<◌, ◌≤◌, length, IfSome};
+ghost use Rattle.std.specs.Option.{ForSome};
+ghost use Rattle.book.specs.Encode as spec;
+ghost use Rattle.book.specs.Encode.{number_in, pattern_values, pattern_at, encoding};
+ghost use Rattle.book.specs.Laws.{ReadsBack};
 ghost use Rattle.book.specs.Wholes.{word_of};
-ghost use Rattle.book.specs.Put.{number_in, v_limit, m_limit, d_limit, word_a, pattern_at, made_of, put, answered, below};
-ghost use Rattle.book.specs.Laws.{Reads};
 
 use crate::book::Book;
+use crate::encode_error::EncodeError;
 use crate::patterns::pattern_place;
 use crate::rows::place_of;
-use crate::unput::EncodeError;
 use crate::whole::{is_branch, word_of_name};
 use isa::{Format, Name};
 use word::{join, signed_field, unsigned_field};
@@ -21,7 +23,7 @@ fn number_of(table: &[Option<Name>], name: Name) -> Option<u16>
 }
 
 fn m_values(format: Format) -> u16
-    ensures { result ≡ m_limit format }
+    ensures { result ≡ spec.m_values format }
 {
     match format {
         Format::A2 | Format::A4 | Format::A5 => 4,
@@ -30,7 +32,7 @@ fn m_values(format: Format) -> u16
 }
 
 fn d_values(format: Format) -> u16
-    ensures { result ≡ d_limit format }
+    ensures { result ≡ spec.d_values format }
 {
     match format {
         Format::A1 => 256,
@@ -43,9 +45,12 @@ fn d_values(format: Format) -> u16
 }
 
 // The number, the pattern, M and D side by side.
-fn lay_a(format: Format, number: u16, pattern: u16, m: u16, d: u16) -> u16
-    requires { (number < 64) × ((pattern < v_limit format) × ((m < m_limit format) × (d < d_limit format))) }
-    ensures { result ≡ word_a format number pattern m d }
+fn a_word(format: Format, number: u16, pattern: u16, m: u16, d: u16) -> u16
+    requires number_fits { number < 64 }
+    requires pattern_fits { pattern < pattern_values format }
+    requires m_fits { m < spec.m_values format }
+    requires d_fits { d < spec.d_values format }
+    ensures { result ≡ spec.a_word format number pattern m d }
 {
     match format {
         Format::A1 => join(join(number, 2, pattern), 8, d),
@@ -58,9 +63,11 @@ fn lay_a(format: Format, number: u16, pattern: u16, m: u16, d: u16) -> u16
 }
 
 // A field below the number, with no M.
-fn lay_below(number: u16, count: u16, m: i32, field: Option<u16>) -> Result<u16, EncodeError>
-    requires { (count < 16) × ((number * 2 ^ count + 2 ^ count ≤ 65536) × IfSome field (λ x. x < 2 ^ count)) }
-    ensures { answered result ≡ below (number * 2 ^ count) m field }
+fn word_without_m(number: u16, count: u16, m: i32, field: Option<u16>) -> Result<u16, EncodeError>
+    requires count_fits { count < 16 }
+    requires number_fits { number * 2 ^ count + 2 ^ count ≤ 65536 }
+    requires field_fits { ForSome field (λ x. x < 2 ^ count) }
+    ensures { result ≡ spec.word_without_m (number * 2 ^ count) m field }
 {
     match field {
         Some(field) if m == 0 => Ok(join(number, count, field)),
@@ -77,25 +84,25 @@ impl Book {
         self.tables.patterns[place]
     }
 
-    fn put_a(&self, name: Name, format: Format, m: i32, d: i32) -> Result<u16, EncodeError>
-        ensures { answered result ≡ Rattle.book.specs.Put.put_a self.now.tables name format m d }
+    fn encode_a(&self, name: Name, format: Format, m: i32, d: i32) -> Result<u16, EncodeError>
+        ensures { result ≡ spec.encode_a self.now.tables name format m d }
     {
         let number = number_of(&self.tables.a, name).ok_or(EncodeError::Unavailable)?;
         let pattern = self.pattern_of(format).ok_or(EncodeError::Unavailable)?;
         let m = unsigned_field(m, m_values(format)).ok_or(EncodeError::Unfit)?;
         let d = unsigned_field(d, d_values(format)).ok_or(EncodeError::Unfit)?;
-        Ok(lay_a(format, number, u16::from(pattern), m, d))
+        Ok(a_word(format, number, u16::from(pattern), m, d))
     }
 
-    fn put_b(&self, name: Name, m: i32, d: i32) -> Result<u16, EncodeError>
-        ensures { answered result ≡ Rattle.book.specs.Put.put_b self.now.tables name m d }
+    fn encode_b(&self, name: Name, m: i32, d: i32) -> Result<u16, EncodeError>
+        ensures { result ≡ spec.encode_b self.now.tables name m d }
     {
         let number = number_of(&self.tables.b, name).ok_or(EncodeError::Unavailable)?;
-        lay_below(number, 10, m, signed_field(d, 512))
+        word_without_m(number, 10, m, signed_field(d, 512))
     }
 
-    fn put_l(&self, name: Name, m: i32, d: i32) -> Result<u16, EncodeError>
-        ensures { answered result ≡ Rattle.book.specs.Put.put_l (word_of name) self.now.tables name m d }
+    fn encode_l(&self, name: Name, m: i32, d: i32) -> Result<u16, EncodeError>
+        ensures { result ≡ spec.encode_l (word_of name) self.now.tables name m d }
     {
         if let Some(word) = word_of_name(name) {
             return if m == 0 && d == 0 {
@@ -105,7 +112,7 @@ impl Book {
             };
         }
         if let Name::Bitl = name {
-            return lay_below(22, 8, m, unsigned_field(d, 256));
+            return word_without_m(22, 8, m, unsigned_field(d, 256));
         }
         let number = number_of(&self.tables.l, name).ok_or(EncodeError::Unavailable)?;
         let field = if is_branch(name) {
@@ -113,26 +120,26 @@ impl Book {
         } else {
             unsigned_field(d, 256)
         };
-        lay_below(number, 8, m, field)
+        word_without_m(number, 8, m, field)
     }
 
-    fn put(&self, name: Name, format: Format, m: i32, d: i32) -> Result<u16, EncodeError>
-        ensures { answered result ≡ made_of self.now.tables name format m d }
+    fn encode_format(&self, name: Name, format: Format, m: i32, d: i32) -> Result<u16, EncodeError>
+        ensures { result ≡ encoding self.now.tables name format m d }
     {
         match format {
-            Format::A1 | Format::A2 | Format::A3 | Format::A4 | Format::A5 => self.put_a(
+            Format::A1 | Format::A2 | Format::A3 | Format::A4 | Format::A5 => self.encode_a(
                 name, format, m, d,
             ),
-            Format::L => self.put_l(name, m, d),
-            Format::B => self.put_b(name, m, d),
+            Format::L => self.encode_l(name, m, d),
+            Format::B => self.encode_b(name, m, d),
         }
     }
 
-    // The word that this book reads as the name, the format, M and D.
-    pub fn put_together(&self, name: Name, format: Format, m: i32, d: i32) -> Result<u16, EncodeError>
-        ensures is { answered result ≡ put self.now.tables name format m d }
-        ensures reads { Reads self.now.tables name format m d result }
+    /// The word that this book reads as the name, the format, M and D.
+    pub fn encode(&self, name: Name, format: Format, m: i32, d: i32) -> Result<u16, EncodeError>
+        ensures is { result ≡ spec.encode self.now.tables name format m d }
+        ensures reads_back { ReadsBack self.now.tables name format m d result }
     {
-        self.put(name, format, m, d)
+        self.encode_format(name, format, m, d)
     }
 }

@@ -9,12 +9,15 @@ use Rattle.std.proofs.lemmas.Bool.{eqb-true, ltb-true, cond_both, le-ltb}
 use Rattle.isa.proofs.Ranks.{rank_tells}
 use Rattle.word.specs.Fields.{as_signed, unsigned_in, signed_in}
 use Rattle.book.specs.Wholes.{word_of, branches}
-use Rattle.book.specs.Add.{need}
-use Rattle.book.specs.Put.{number_in, m_limit, d_limit, word_a, pattern_at, put_a, below, put_l, made_of}
+use Rattle.std.specs.Option.{ok_or}
+use Rattle.text.specs.Results.{◌>>=◌}
+use Rattle.book.specs.declared.encode_error.EncodeError.{EncodeError}
+use Rattle.book.specs.declared.encode_error.EncodeError.TheVariants.{Unavailable, Unfit}
+use Rattle.book.specs.Encode.{number_in, m_values, d_values, a_word, pattern_at, encode_a, word_without_m, encode_named_l, encode_l, encoding}
 use Rattle.book.specs.Layout.{LaysA, Lays}
 
 -- what was needed was there
-had : {X : Type 0} (o : Option X) (e : ℕ) (f : X → Result ℕ ℕ) (w : ℕ) → need o e f ≡ Ok w → (x : X) × ((o ≡ Some x) × (f x ≡ Ok w))
+had : {X : Type 0} (o : Option X) (e : EncodeError) (f : X → Result ℕ EncodeError) (w : ℕ) → (ok_or o e >>= f) ≡ Ok w → (x : X) × ((o ≡ Some x) × (f x ≡ Ok w))
 had None e f w h = let z : ◌≡◌ {A = ℕ} 0 1 = cc in absurd (omega arith)
 had (Some x) e f w h = (x, (refl, h))
 
@@ -62,12 +65,12 @@ stands n t k h =
     subst (λ j. get_or t j None ≡ Some n) q r.1.1
 
 -- M, and the layout that the word then has
-pub record Made (t : Tables) (w : ℕ) (n : Name) (f : Format) (m d : ℤ) : Type 0 where
+pub record Encoded (t : Tables) (w : ℕ) (n : Name) (f : Format) (m d : ℤ) : Type 0 where
   pub x : ℕ
   pub m_is : m ≡ pos x
   pub lays : Lays t w n f x d
 
-record MadeA (t : Tables) (w : ℕ) (n : Name) (f : Format) (m d : ℤ) : Type 0 where
+record EncodedA (t : Tables) (w : ℕ) (n : Name) (f : Format) (m d : ℤ) : Type 0 where
   pub k : ℕ
   pub v : ℕ
   pub x : ℕ
@@ -75,45 +78,45 @@ record MadeA (t : Tables) (w : ℕ) (n : Name) (f : Format) (m d : ℤ) : Type 0
   pub name : get_or t.a k None ≡ Some n
   pub pattern : pattern_at t f ≡ Some v
   pub m_is : m ≡ pos x
-  pub m_fits : x < m_limit f
+  pub m_fits : x < m_values f
   pub d_is : d ≡ pos y
-  pub d_fits : y < d_limit f
-  pub word : w ≡ word_a f k v x y
+  pub d_fits : y < d_values f
+  pub word : w ≡ a_word f k v x y
 
-made_a : (t : Tables) (w : ℕ) (n : Name) (f : Format) (m d : ℤ) → put_a t n f m d ≡ Ok w → MadeA t w n f m d
-made_a t w n f m d h =
-    let k = had (number_in n 0 t.a) 21 _ w h in
-    let v = had (pattern_at t f) 21 _ w k.1.1 in
-    let x = had (unsigned_in (m_limit f) m) 22 _ w v.1.1 in
-    let y = had (unsigned_in (d_limit f) d) 22 _ w x.1.1 in
-    let x' = unsigned_was (m_limit f) m x.0 x.1.0 in
-    let y' = unsigned_was (d_limit f) d y.0 y.1.0 in
+encoded_a : (t : Tables) (w : ℕ) (n : Name) (f : Format) (m d : ℤ) → encode_a t n f m d ≡ Ok w → EncodedA t w n f m d
+encoded_a t w n f m d h =
+    let k = had (number_in n 0 t.a) Unavailable _ w h in
+    let v = had (pattern_at t f) Unavailable _ w k.1.1 in
+    let x = had (unsigned_in (m_values f) m) Unfit _ w v.1.1 in
+    let y = had (unsigned_in (d_values f) d) Unfit _ w x.1.1 in
+    let x' = unsigned_was (m_values f) m x.0 x.1.0 in
+    let y' = unsigned_was (d_values f) d y.0 y.1.0 in
     let e = y.1.1 in
     record { k = k.0; v = v.0; x = x.0; y = y.0; name = stands n t.a k.0 k.1.0; pattern = v.1.0; m_is = x'.0; m_fits = x'.1; d_is = y'.0; d_fits = y'.1; word = cc }
 
-record MadeBelow (w base : ℕ) (m : ℤ) (o : Option ℕ) : Type 0 where
+record EncodedWithoutM (w base : ℕ) (m : ℤ) (o : Option ℕ) : Type 0 where
   pub y : ℕ
   pub m_is : m ≡ pos 0
   pub d_is : o ≡ Some y
   pub word : w ≡ base + y
 
-made_below : (w base : ℕ) (m : ℤ) (o : Option ℕ) → below base m o ≡ Ok w → MadeBelow w base m o
-made_below w base m o h =
-    let x = had (unsigned_in 1 m) 22 _ w h in
-    let y = had o 22 _ w x.1.1 in
+encoded_without_m : (w base : ℕ) (m : ℤ) (o : Option ℕ) → word_without_m base m o ≡ Ok w → EncodedWithoutM w base m o
+encoded_without_m w base m o h =
+    let x = had (unsigned_in 1 m) Unfit _ w h in
+    let y = had o Unfit _ w x.1.1 in
     let x' = unsigned_was 1 m x.0 x.1.0 in
     let z : x.0 ≡ 0 = omega (arith, x'.1) in
     let e = y.1.1 in
     record { y = y.0; m_is = x'.0 ∙ ap pos z; d_is = y.1.0; word = cc }
 
 -- an A word, by the place and the unit of its format's pattern
-laid_a : (t : Tables) (w : ℕ) (n : Name) (f : Format) (m d : ℤ) (place unit : ℕ) (a : MadeA t w n f m d) → pattern_at t f ≡ get_or t.patterns place None → w ≡ a.k * 1024 + a.v * unit + a.x * d_limit f + a.y → LaysA t place unit (m_limit f) (d_limit f) w n a.x d
+laid_a : (t : Tables) (w : ℕ) (n : Name) (f : Format) (m d : ℤ) (place unit : ℕ) (a : EncodedA t w n f m d) → pattern_at t f ≡ get_or t.patterns place None → w ≡ a.k * 1024 + a.v * unit + a.x * d_values f + a.y → LaysA t place unit (m_values f) (d_values f) w n a.x d
 laid_a t w n f m d place unit a p e = record { k = a.k; v = a.v; x = a.y; name = a.name; pattern = sym p ∙ a.pattern; m_fits = a.m_fits; d_fits = a.d_fits; d_is = a.d_is; word = e }
 
-made_b : (t : Tables) (w : ℕ) (n : Name) (m d : ℤ) → made_of t n B m d ≡ Ok w → Made t w n B m d
-made_b t w n m d h =
-    let k = had (number_in n 0 t.b) 21 _ w h in
-    let a = made_below w (k.0 * 1024) m (signed_in 512 d) k.1.1 in
+encoded_b : (t : Tables) (w : ℕ) (n : Name) (m d : ℤ) → encoding t n B m d ≡ Ok w → Encoded t w n B m d
+encoded_b t w n m d h =
+    let k = had (number_in n 0 t.b) Unavailable _ w h in
+    let a = encoded_without_m w (k.0 * 1024) m (signed_in 512 d) k.1.1 in
     let d' = signed_was 512 d a.y a.d_is in
     record { x = 0; m_is = a.m_is; lays = record { k = k.0; x = a.y; name = stands n t.b k.0 k.1.0; m_is = refl; d_fits = d'.1; d_is = d'.0; word = a.word } }
 
@@ -121,32 +124,32 @@ l_was : (b : Bool) (d : ℤ) (x : ℕ) → cond b (signed_in 128 d) (unsigned_in
 l_was true d x h = signed_was 128 d x h
 l_was false d x h = unsigned_was 256 d x h
 
-made_l : (t : Tables) (w : ℕ) (n : Name) (m d : ℤ) (o : Option ℕ) → word_of n ≡ o → put_l o t n m d ≡ Ok w → Made t w n L m d
-made_l t w n m d (Some v) e h =
-    let a = made_below w v m (unsigned_in 1 d) h in
+encoded_l : (t : Tables) (w : ℕ) (n : Name) (m d : ℤ) (o : Option ℕ) → word_of n ≡ o → encode_l o t n m d ≡ Ok w → Encoded t w n L m d
+encoded_l t w n m d (Some v) e h =
+    let a = encoded_without_m w v m (unsigned_in 1 d) h in
     let d' = unsigned_was 1 d a.y a.d_is in
     let z : a.y ≡ 0 = omega (arith, d'.1) in
     let q : v ≡ w = omega (arith, a.word) in
     record { x = 0; m_is = a.m_is; lays = inl (record { m_is = refl; d_is = d'.0 ∙ ap pos z; word = e ∙ ap Some q }) }
-made_l t w n m d None e h =
-    cond_both (eqb (rank n) 56) (below (22 * 256) m (unsigned_in 256 d)) (need (number_in n 0 t.l) 21 (λ k. below (k * 256) m (cond (branches n) (signed_in 128 d) (unsigned_in 256 d)))) (λ r. r ≡ Ok w → Made t w n L m d)
+encoded_l t w n m d None e h =
+    cond_both (eqb (rank n) 56) (word_without_m (22 * 256) m (unsigned_in 256 d)) (encode_named_l t n m d) (λ r. r ≡ Ok w → Encoded t w n L m d)
     (λ b g.
-    let a = made_below w (22 * 256) m (unsigned_in 256 d) g in
+    let a = encoded_without_m w (22 * 256) m (unsigned_in 256 d) g in
     let d' = unsigned_was 256 d a.y a.d_is in
     record { x = 0; m_is = a.m_is; lays = inr (inl (record { x = a.y; name = rank_tells n Bitl (eqb-true (rank n) 56 b); m_is = refl; d_fits = d'.1; d_is = d'.0; word = a.word })) })
     (λ _ g.
-    let k = had (number_in n 0 t.l) 21 _ w g in
-    let a = made_below w (k.0 * 256) m (cond (branches n) (signed_in 128 d) (unsigned_in 256 d)) k.1.1 in
+    let k = had (number_in n 0 t.l) Unavailable _ w g in
+    let a = encoded_without_m w (k.0 * 256) m (cond (branches n) (signed_in 128 d) (unsigned_in 256 d)) k.1.1 in
     let d' = l_was (branches n) d a.y a.d_is in
     record { x = 0; m_is = a.m_is; lays = inr (inr (record { k = k.0; x = a.y; name = stands n t.l k.0 k.1.0; m_is = refl; d_fits = d'.1; d_is = d'.0; word = a.word })) })
     h
 
--- a word that was put together has the layout of what it was made from
-pub made : (t : Tables) (w : ℕ) (n : Name) (f : Format) (m d : ℤ) → made_of t n f m d ≡ Ok w → Made t w n f m d
-made t w n A1 m d h = let a = made_a t w n A1 m d h in record { x = a.x; m_is = a.m_is; lays = laid_a t w n A1 m d 0 256 a refl (omega (arith, a.word, a.m_fits)) }
-made t w n A2 m d h = let a = made_a t w n A2 m d h in record { x = a.x; m_is = a.m_is; lays = laid_a t w n A2 m d 1 512 a refl (omega (arith, a.word, a.m_fits)) }
-made t w n A3 m d h = let a = made_a t w n A3 m d h in record { x = a.x; m_is = a.m_is; lays = laid_a t w n A3 m d 2 64 a refl (omega (arith, a.word, a.m_fits)) }
-made t w n A4 m d h = let a = made_a t w n A4 m d h in record { x = a.x; m_is = a.m_is; lays = laid_a t w n A4 m d 3 128 a refl (omega (arith, a.word, a.m_fits)) }
-made t w n A5 m d h = let a = made_a t w n A5 m d h in record { x = a.x; m_is = a.m_is; lays = laid_a t w n A5 m d 4 64 a refl (omega (arith, a.word, a.m_fits)) }
-made t w n L m d h = made_l t w n m d (word_of n) refl h
-made t w n B m d h = made_b t w n m d h
+-- a word that was encode together has the layout of what it was encoded from
+pub encoded : (t : Tables) (w : ℕ) (n : Name) (f : Format) (m d : ℤ) → encoding t n f m d ≡ Ok w → Encoded t w n f m d
+encoded t w n A1 m d h = let a = encoded_a t w n A1 m d h in record { x = a.x; m_is = a.m_is; lays = laid_a t w n A1 m d 0 256 a refl (omega (arith, a.word, a.m_fits)) }
+encoded t w n A2 m d h = let a = encoded_a t w n A2 m d h in record { x = a.x; m_is = a.m_is; lays = laid_a t w n A2 m d 1 512 a refl (omega (arith, a.word, a.m_fits)) }
+encoded t w n A3 m d h = let a = encoded_a t w n A3 m d h in record { x = a.x; m_is = a.m_is; lays = laid_a t w n A3 m d 2 64 a refl (omega (arith, a.word, a.m_fits)) }
+encoded t w n A4 m d h = let a = encoded_a t w n A4 m d h in record { x = a.x; m_is = a.m_is; lays = laid_a t w n A4 m d 3 128 a refl (omega (arith, a.word, a.m_fits)) }
+encoded t w n A5 m d h = let a = encoded_a t w n A5 m d h in record { x = a.x; m_is = a.m_is; lays = laid_a t w n A5 m d 4 64 a refl (omega (arith, a.word, a.m_fits)) }
+encoded t w n L m d h = encoded_l t w n m d (word_of n) refl h
+encoded t w n B m d h = encoded_b t w n m d h

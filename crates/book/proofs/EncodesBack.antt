@@ -9,7 +9,7 @@ use Rattle.word.specs.Fields.{as_signed, unsigned_in, signed_in}
 use Rattle.book.specs.Rows.{is_name, has_name}
 use Rattle.book.specs.Sound.{between, reserved, legal_l, apart}
 use Rattle.book.specs.Wholes.{word_of, branches}
-use Rattle.book.specs.Put.{number_in, m_limit, d_limit, word_a, pattern_at, put_a, made_of}
+use Rattle.book.specs.Encode.{number_in, m_values, d_values, a_word, pattern_at, encode_a, encoding}
 use Rattle.book.specs.Layout.{LaysA, LaysL, LaysBitl, LaysWhole, Lays}
 use Rattle.book.proofs.Facts.{Facts}
 use Rattle.book.proofs.Entering.{legal_at}
@@ -72,25 +72,25 @@ l_plain t g k n e =
     plain n (leb-true (rank n) 43 (and_parts (leb 31 (rank n)) (leb (rank n) 43) r).1)
 
 -- an A word, by the place and the unit of its format's pattern
-again_a : (t : Tables) → Facts t → (w : ℕ) (n : Name) (f : Format) (m : ℕ) (d : ℤ) (place unit : ℕ) (l : LaysA t place unit (m_limit f) (d_limit f) w n m d) → pattern_at t f ≡ get_or t.patterns place None → word_a f l.k l.v m l.x ≡ w → put_a t n f (pos m) d ≡ Ok w
-again_a t g w n f m d place unit l p e =
+encodes_back_a : (t : Tables) → Facts t → (w : ℕ) (n : Name) (f : Format) (m : ℕ) (d : ℤ) (place unit : ℕ) (l : LaysA t place unit (m_values f) (d_values f) w n m d) → pattern_at t f ≡ get_or t.patterns place None → a_word f l.k l.v m l.x ≡ w → encode_a t n f (pos m) d ≡ Ok w
+encodes_back_a t g w n f m d place unit l p e =
     let k = numbered t.a g.a_apart l.k n l.name in
     let v : pattern_at t f ≡ Some l.v = p ∙ l.pattern in
     let y = l.d_is in
-    let a = lt-ltb m (m_limit f) l.m_fits in
-    let b = lt-ltb l.x (d_limit f) l.d_fits in
+    let a = lt-ltb m (m_values f) l.m_fits in
+    let b = lt-ltb l.x (d_values f) l.d_fits in
     simp (k, v, y, a, b) (ap Ok e)
 
-again_b : (t : Tables) → Facts t → (w : ℕ) (n : Name) (m : ℕ) (d : ℤ) → Lays t w n B m d → made_of t n B (pos m) d ≡ Ok w
-again_b t g w n m d l =
+encodes_back_b : (t : Tables) → Facts t → (w : ℕ) (n : Name) (m : ℕ) (d : ℤ) → Lays t w n B m d → encoding t n B (pos m) d ≡ Ok w
+encodes_back_b t g w n m d l =
     let f = numbered t.b g.b_apart l.k n l.name in
     let y = l.d_is in
     let a = lt-ltb m 1 (omega arith) in
     let b = signed_back 512 l.x l.d_fits in
     simp (f, y, a, b) (ap Ok (sym l.word))
 
-again_l : (t : Tables) → Facts t → (w : ℕ) (n : Name) (m : ℕ) (d : ℤ) → LaysL t w n m d → made_of t n L (pos m) d ≡ Ok w
-again_l t g w n m d l =
+encodes_back_l : (t : Tables) → Facts t → (w : ℕ) (n : Name) (m : ℕ) (d : ℤ) → LaysL t w n m d → encoding t n L (pos m) d ≡ Ok w
+encodes_back_l t g w n m d l =
     let f = numbered t.l g.l_apart l.k n l.name in
     let p = (l_plain t g l.k n l.name).0 in
     let q = (l_plain t g l.k n l.name).1 in
@@ -99,27 +99,27 @@ again_l t g w n m d l =
     let b = l_back (branches n) l.x l.d_fits in
     simp (p, q, f, y, a, b) (ap Ok (sym l.word))
 
-again_bitl : (t : Tables) (w : ℕ) (n : Name) (m : ℕ) (d : ℤ) → LaysBitl w n m d → made_of t n L (pos m) d ≡ Ok w
-again_bitl t w n m d l =
+encodes_back_bitl : (t : Tables) (w : ℕ) (n : Name) (m : ℕ) (d : ℤ) → LaysBitl w n m d → encoding t n L (pos m) d ≡ Ok w
+encodes_back_bitl t w n m d l =
     let e = l.name in
     let y = l.d_is in
     let a = lt-ltb m 1 (omega arith) in
     let b = lt-ltb l.x 256 l.d_fits in
     simp (e, y, a, b) (ap Ok (sym l.word))
 
-again_whole : (t : Tables) (w : ℕ) (n : Name) (m : ℕ) (d : ℤ) → LaysWhole w n m d → made_of t n L (pos m) d ≡ Ok w
-again_whole t w n m d l =
+encodes_back_whole : (t : Tables) (w : ℕ) (n : Name) (m : ℕ) (d : ℤ) → LaysWhole w n m d → encoding t n L (pos m) d ≡ Ok w
+encodes_back_whole t w n m d l =
     let e = l.word in
     let y = l.d_is in
     let a = lt-ltb m 1 (omega arith) in
     simp (e, y, a) (ap Ok (omega arith))
 
--- what a layout holds, put together, gives its word
-pub again : (t : Tables) → Facts t → (w : ℕ) (n : Name) (f : Format) (m : ℕ) (d : ℤ) → Lays t w n f m d → made_of t n f (pos m) d ≡ Ok w
-again t g w n A1 m d l = again_a t g w n A1 m d 0 256 l refl (omega arith)
-again t g w n A2 m d l = again_a t g w n A2 m d 1 512 l refl (omega arith)
-again t g w n A3 m d l = again_a t g w n A3 m d 2 64 l refl (omega arith)
-again t g w n A4 m d l = again_a t g w n A4 m d 3 128 l refl (omega arith)
-again t g w n A5 m d l = again_a t g w n A5 m d 4 64 l refl (omega arith)
-again t g w n L m d l = ⊎_elim (again_whole t w n m d) (⊎_elim (again_bitl t w n m d) (again_l t g w n m d)) l
-again t g w n B m d l = again_b t g w n m d l
+-- what a layout holds, encode together, gives its word
+pub encodes_back : (t : Tables) → Facts t → (w : ℕ) (n : Name) (f : Format) (m : ℕ) (d : ℤ) → Lays t w n f m d → encoding t n f (pos m) d ≡ Ok w
+encodes_back t g w n A1 m d l = encodes_back_a t g w n A1 m d 0 256 l refl (omega arith)
+encodes_back t g w n A2 m d l = encodes_back_a t g w n A2 m d 1 512 l refl (omega arith)
+encodes_back t g w n A3 m d l = encodes_back_a t g w n A3 m d 2 64 l refl (omega arith)
+encodes_back t g w n A4 m d l = encodes_back_a t g w n A4 m d 3 128 l refl (omega arith)
+encodes_back t g w n A5 m d l = encodes_back_a t g w n A5 m d 4 64 l refl (omega arith)
+encodes_back t g w n L m d l = ⊎_elim (encodes_back_whole t w n m d) (⊎_elim (encodes_back_bitl t w n m d) (encodes_back_l t g w n m d)) l
+encodes_back t g w n B m d l = encodes_back_b t g w n m d l

@@ -1,9 +1,9 @@
 ghost use Rattle.std.specs.Prelude.{◌≡◌};
-ghost use Rattle.book.specs.Put.{unput_number};
+ghost use Rattle.book.specs.Encode.{encode_error_number};
 
 use thiserror::Error;
 
-// Why a word cannot be put together: the book has no such instruction, or M or D does not fit.
+/// Why no word can be encoded: the book has no such instruction, or M or D does not fit.
 #[derive(Clone, Copy, PartialEq, Eq, Debug, Error)]
 pub enum EncodeError {
     #[error("refused with 21: the code book has no such instruction")]
@@ -14,7 +14,7 @@ pub enum EncodeError {
 
 impl EncodeError {
     pub fn number(self) -> u8
-        ensures { result ≡ unput_number self }
+        ensures { result ≡ encode_error_number self }
     {
         self as u8
     }

@@ -1,33 +1,28 @@
 ghost use Rattle.std.specs.Prelude.{◌≡◌};
-ghost use Rattle.book.specs.Faults.{fault_number, unended_at};
-ghost use Rattle.book.specs.declared.refused.Fault.TheVariants.{Name};
+ghost use Rattle.book.specs.Faults.{fault_number};
+ghost use Rattle.book.specs.declared.fault.Fault.TheVariants.{Name};
 
 use isa::UnknownFormat;
-use text::Unended;
+use text::AtLine;
 use thiserror::Error;
 
-// What is wrong with a text that should be a code book.
+/// What is wrong with a text that should be a code book.
 #[derive(Clone, Copy, PartialEq, Eq, Debug, Error)]
 pub enum Fault {
-    #[error("not just three fields parted by tabs, or no line feed")]
+    #[error("the code book is refused with 11: not just three fields parted by tabs, or no line feed")]
     Fields = 11,
-    #[error("no such letter, or no such name of the letter")]
+    #[error("the code book is refused with 12: no such letter, or no such name of the letter")]
     Name = 12,
-    #[error("the value is not of its kind (form, range, excluded number, length of pattern)")]
+    #[error("the code book is refused with 13: the value is not of its kind (form, range, excluded number, length of pattern)")]
     Value = 13,
-    #[error("it repeats a name or a value of its letter, or one pattern begins the other")]
+    #[error("the code book is refused with 14: it repeats a name or a value of its letter, or one pattern begins the other")]
     Repeated = 14,
-    #[error("a format is missing")]
+    #[error("the code book is refused with 15: a format is missing")]
     Missing = 15,
 }
 
-// The first fault of a text, with the number of its line.
-#[derive(Clone, Copy, PartialEq, Eq, Debug, Error)]
-#[error("line {line}: the code book is refused with {}: {fault}", .fault.number())]
-pub struct Refused {
-    pub fault: Fault,
-    pub line: usize,
-}
+/// The first fault of a text, with the number of its line.
+pub type Refused = AtLine<Fault>;
 
 impl Fault {
     pub fn number(self) -> u8
@@ -42,17 +37,6 @@ impl From<UnknownFormat> for Fault {
 
     fn from(_format: UnknownFormat) -> Fault {
         Fault::Name
-    }
-}
-
-impl From<Unended> for Refused {
-    ghost from_gives = { λ unended refused. refused ≡ unended_at unended.line };
-
-    fn from(unended: Unended) -> Refused {
-        Refused {
-            fault: Fault::Fields,
-            line: unended.line,
-        }
     }
 }
 
