@@ -73,14 +73,14 @@ spelled Bitl = codes "BITL"
 abbrev pub rank : Name → ℕ
 rank n = tag_of the_type n
 
-abbrev pub a_names : List Name
-a_names = Ldb ∷ Ld ∷ Ldw ∷ Ldx ∷ Stb ∷ St ∷ Stw ∷ Stx ∷ Ad ∷ Adw ∷ Sb ∷ Sbw ∷ Adx ∷ Sbx ∷ Cp ∷ Cpw ∷ Cpx ∷ Nw ∷ Nx ∷ Mx ∷ Dx ∷ Ldy ∷ Sty ∷ Ady ∷ Sby ∷ Ldz ∷ Stz ∷ Adz ∷ Sbz ∷ Bi ∷ Bli ∷ []
+abbrev pub names_a : List Name
+names_a = Ldb ∷ Ld ∷ Ldw ∷ Ldx ∷ Stb ∷ St ∷ Stw ∷ Stx ∷ Ad ∷ Adw ∷ Sb ∷ Sbw ∷ Adx ∷ Sbx ∷ Cp ∷ Cpw ∷ Cpx ∷ Nw ∷ Nx ∷ Mx ∷ Dx ∷ Ldy ∷ Sty ∷ Ady ∷ Sby ∷ Ldz ∷ Stz ∷ Adz ∷ Sbz ∷ Bi ∷ Bli ∷ []
 
-abbrev pub l_names : List Name
-l_names = Ldl ∷ Adl ∷ Sbl ∷ Cpl ∷ Nl ∷ Ml ∷ Bitx ∷ Bz ∷ Bnz ∷ Bn ∷ Bnn ∷ Bca ∷ Bof ∷ []
+abbrev pub names_l : List Name
+names_l = Ldl ∷ Adl ∷ Sbl ∷ Cpl ∷ Nl ∷ Ml ∷ Bitx ∷ Bz ∷ Bnz ∷ Bn ∷ Bnn ∷ Bca ∷ Bof ∷ []
 
-abbrev pub b_names : List Name
-b_names = B ∷ Bl ∷ []
+abbrev pub names_b : List Name
+names_b = B ∷ Bl ∷ []
 
 -- the names that stand in no book
 abbrev pub fixed_names : List Name
@@ -88,9 +88,9 @@ fixed_names = Mbs ∷ Cpbs ∷ Trbs ∷ Scbs ∷ Mhs ∷ Rk ∷ Hrk ∷ Sfn ∷ 
 
 -- the names that a letter has in a code book
 abbrev pub names_of : Letter → List Name
-names_of letter.A = a_names
-names_of letter.L = l_names
-names_of letter.B = b_names
+names_of letter.A = names_a
+names_of letter.L = names_l
+names_of letter.B = names_b
 
 -- the name of a letter that is spelled so
 unfoldable pub name_under : Letter → List ℕ → Option Name

@@ -1,7 +1,6 @@
 -- The whole of a listing.
 use Rattle.std.specs.Prelude.{ℕ, ◌+◌, Bool, true, false, List, [], ◌∷◌, Some, None, Ok, Err, Option, Result, nat_lt, if◌then◌else◌}
 use Rattle.text.specs.declared.fault.AtLine.{AtLine}
-use Rattle.text.specs.Faults.{at_line}
 use Rattle.text.specs.Lines.{whole}
 use Rattle.text.specs.LineRule.{LineRule, rest_read}
 use Rattle.text.specs.Search.{Bytes}
@@ -35,6 +34,10 @@ answer_before (Ok o) after = some_before o after
 -- a halfword at the address e, unless it lies past 65,535
 abbrev pub place_rule : ℕ → ℕ → Bool → Result Placed Fault
 place_rule e h c = if nat_lt e 65536 then Ok (record { address = e; halfword = h; code = c }) else Err Past
+
+-- the end after a halfword at e
+abbrev pub end_after : ℕ → ℕ
+end_after e = if nat_lt e 65536 then e + 2 else e
 
 -- a halfword of line n, and what comes after it
 abbrev pub halfword_placed : ℕ → Result Placed Fault → Read → Read
@@ -80,3 +83,7 @@ listing t s = rest_read (placing t) 0 (whole s)
 -- what is left of a listing: the halfwords of the line in hand, and the lines after it
 abbrev pub remaining : Tables → Listing → Read
 remaining t r = numbers_placed r.line r.end (words r.rest.now) (λ e. rest_read (placing t) e r.lines)
+
+-- the end of what was placed
+abbrev pub end_of : Listing → ℕ
+end_of r = r.end

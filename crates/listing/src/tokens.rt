@@ -1,6 +1,6 @@
 ghost use Rattle.std.specs.Prelude.{◌≡◌, ◌==◌, not, position, IfSome, ◌<◌, length};
-ghost use Rattle.listing.specs.Numbers.{held};
-ghost use Rattle.listing.specs.Words.{words, parted, uncommented, only, three, triple};
+ghost use Rattle.listing.specs.Words as spec;
+ghost use Rattle.listing.specs.Words.{only_word, triple_bytes, uncommented, word_bytes, words, words_of_pair};
 
 use text::cut;
 
@@ -14,7 +14,7 @@ fn word_start(s: &[u8]) -> Option<usize>
 
 // The first word, and what follows it.
 pub fn next_word(s: &[u8]) -> Option<(&[u8], &[u8])>
-    ensures { parted result ≡ words s.now }
+    ensures { words_of_pair result ≡ words s.now }
 {
     let t = &s[word_start(s)?..];
     Some(cut(t, b' ').unwrap_or((t, &[])))
@@ -29,7 +29,7 @@ pub fn before_comment(line: &[u8]) -> &[u8]
 
 // The only word.
 pub fn one_word(s: &[u8]) -> Option<&[u8]>
-    ensures { held result ≡ only (words s.now) }
+    ensures { word_bytes result ≡ only_word (words s.now) }
 {
     let (word, rest) = next_word(s)?;
     next_word(rest).is_none().then_some(word)
@@ -37,7 +37,7 @@ pub fn one_word(s: &[u8]) -> Option<&[u8]>
 
 // The words, if there are just three.
 pub fn three_words(s: &[u8]) -> Option<(&[u8], &[u8], &[u8])>
-    ensures { triple result ≡ three (words s.now) }
+    ensures { triple_bytes result ≡ spec.three_words (words s.now) }
 {
     let (first, rest) = next_word(s)?;
     let (second, rest) = next_word(rest)?;

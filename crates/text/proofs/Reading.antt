@@ -50,3 +50,16 @@ module _ {S R : Type 0} (r : LineRule S R) (P : S → R → Type 0) (end : (n : 
 
   pub rest_read-holds : (s : S) (rest : Rest) → P s (rest_read r s rest)
   rest_read-holds s rest = by_lines (parts 10 rest.text) rest.line s
+
+-- what comes next has the number of the rest
+abbrev pub IsNumbered : Next → ℕ → Type 0
+IsNumbered (a_line m l) n = m ≡ n
+IsNumbered (unended m) n = m ≡ n
+IsNumbered the_end n = Unit {0}
+
+cut_numbered : (r : Rest) (o : Option (Bytes × Bytes)) → IsNumbered (next_by_cut r o).0 r.line
+cut_numbered r None = refl
+cut_numbered r (Some p) = refl
+
+pub next-number : (r rest : Rest) (o : Next) → (o, rest) ≡ next r → IsNumbered o r.line
+next-number r rest o h = subst (λ (p : Next × Rest). IsNumbered p.0 r.line) (sym h) (cond_both (empty r.text) (the_end, r) (next_by_cut r (cut_at 10 r.text)) (λ (p : Next × Rest). IsNumbered p.0 r.line) (λ _. tt) (λ _. cut_numbered r (cut_at 10 r.text)))
