@@ -1,8 +1,8 @@
 -- What the lines of a job say, one after the other.
-use Rattle.std.specs.Prelude.{ℕ, not, cond, List, [], ◌∷◌, replicate, Some, None, Ok, Err, Option, Result, ◌==◌, nat_lt}
+use Rattle.std.specs.Prelude.{ℕ, not, List, [], ◌∷◌, replicate, Some, None, Ok, Err, Option, Result, ◌==◌, nat_lt, if◌then◌else◌}
 use Rattle.std.specs.Borrow.{Bor}
 use Rattle.text.specs.Search.{Bytes}
-use Rattle.access.specs.Access.{bind}
+use Rattle.text.specs.Results as results
 use Rattle.access.specs.declared.rights.Grant.{Grant}
 use Rattle.bays.specs.Grants.{room, clashes_any, added}
 use Rattle.machine.specs.declared.registers.Registers.{Registers}
@@ -27,7 +27,16 @@ pub record SoFar : Type 0 where
   pub results : Option Bytes
 
 abbrev pub nothing : SoFar
-nothing = record { number = None; grants = replicate 6 None; registers = None; input = None; output = None; turns = None; records = None; results = None }
+nothing = record {
+  number = None;
+  grants = replicate 6 None;
+  registers = None;
+  input = None;
+  output = None;
+  turns = None;
+  records = None;
+  results = None;
+}
 
 -- an entry stands once
 abbrev pub first_time : {X : Type 0} → Entry → Option X → X → Result (Option X) Fault
@@ -41,7 +50,11 @@ once e slot r = do
 
 -- one grant more, refused in the order in which a hall refuses
 abbrev pub granted : List (Option Grant) → Grant → Result (List (Option Grant)) Fault
-granted gs g = cond (nat_lt g.last g.first) (Err Reversed) (cond (not (room gs)) (Err SeventhGrant) (cond (clashes_any g gs) (Err Clash) (Ok (added g gs))))
+granted gs g =
+    if nat_lt g.last g.first then Err Reversed
+    else if not (room gs) then Err SeventhGrant
+    else if clashes_any g gs then Err Clash
+    else Ok (added g gs)
 
 -- what the values of an entry add
 abbrev pub entered : SoFar → Entry → Reader SoFar
@@ -73,22 +86,26 @@ entered d entry.Results = do
 
 -- the name of an entry and its values, and no field more
 abbrev pub by_fields : SoFar → List Bytes → Result SoFar Fault
-by_fields d fs = bind ((an_entry >>= entered d) fs) (λ p. bind (ended p.1) (λ _. Ok p.0))
+by_fields d fs = results.◌>>=◌ ((an_entry >>= entered d) fs) (λ p. results.◌>>=◌ (ended p.1) (λ _. Ok p.0))
 
 -- what the lines so far and one more say; an empty one and one that # begins say nothing
 unfoldable pub line_rule : SoFar → Bytes → Result SoFar Fault
 line_rule d [] = Ok d
-line_rule d (x ∷ xs) = cond (x == 35) (Ok d) (by_fields d (fields (x ∷ xs)))
+line_rule d (x ∷ xs) = if x == 35 then Ok d else by_fields d (fields (x ∷ xs))
 
 -- the bytes of a name that is borrowed, if it is there
-abbrev pub held : Option (Bor Bytes) → Option Bytes
-held None = None
-held (Some r) = Some r.now
+abbrev pub name_bytes : Option (Bor Bytes) → Option Bytes
+name_bytes None = None
+name_bytes (Some r) = Some r.now
 
 abbrev pub so_far : Draft → SoFar
-so_far d = record { number = d.number; grants = d.grants; registers = d.registers; input = d.input; output = d.output; turns = d.turns; records = held d.records; results = held d.results }
-
--- what an answer leaves, or its fault
-abbrev pub left_by : {X E : Type 0} → Result (Unit {0}) E → X → Result X E
-left_by (Err e) x = Err e
-left_by (Ok u) x = Ok x
+so_far d = record {
+  number = d.number;
+  grants = d.grants;
+  registers = d.registers;
+  input = d.input;
+  output = d.output;
+  turns = d.turns;
+  records = name_bytes d.records;
+  results = name_bytes d.results;
+}

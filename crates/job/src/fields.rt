@@ -1,5 +1,5 @@
 ghost use Rattle.std.specs.Prelude.{◌≡◌};
-ghost use Rattle.job.specs.Fields.{fields, a_field, ended, left, taken};
+ghost use Rattle.job.specs.Fields.{fields, a_field, ended, fields_left, with_rest};
 
 use crate::fault::Fault;
 use text::cut;
@@ -12,14 +12,14 @@ pub struct Fields<'a> {
 
 impl<'a> Fields<'a> {
     pub fn new(line: &'a [u8]) -> Fields<'a>
-        ensures { left result ≡ fields line.now }
+        ensures { fields_left result ≡ fields line.now }
     {
         Fields { rest: Some(line) }
     }
 
     // The next field, or the fault that there is none.
     pub fn next_field(&mut self) -> Result<&'a [u8], Fault>
-        ensures { taken (λ s. s.now) result (left self.new) ≡ a_field (left self.old) }
+        ensures { with_rest (λ s. s.now) result (fields_left self.new) ≡ a_field (fields_left self.old) }
     {
         let text = self.rest.take().ok_or(Fault::Fields)?;
         let Some((field, rest)) = cut(text, b'\t') else {
@@ -31,7 +31,7 @@ impl<'a> Fields<'a> {
 
     // No field is left.
     pub fn end(self) -> Result<(), Fault>
-        ensures { result ≡ ended (left self.entry) }
+        ensures { result ≡ ended (fields_left self.entry) }
     {
         match self.rest {
             None => Ok(()),
