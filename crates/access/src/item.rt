@@ -1,7 +1,7 @@
 ghost use Rattle.access.specs.Access.{aligned, checked, held, item_may, item_read, sight_of, size};
 ghost use Rattle.access.specs.declared.item.Item.{Item};
 ghost use Rattle.access.specs.declared.kind.Use.TheVariants.{Write};
-ghost use Rattle.std.specs.Prelude.{◌≡◌, ℕ};
+ghost use Rattle.std.specs.Prelude.{◌≡◌, ◌≤◌, ℕ};
 
 use crate::reach::Reach;
 use crate::stop::Denial;
@@ -20,7 +20,8 @@ impl Item {
     /// How many bytes it has.
     #[inline(always)]
     pub fn size(self) -> u16
-        ensures { result ≡ size self }
+        ensures is { result ≡ size self }
+        ensures within { result ≤ 4 }
     {
         match self {
             Item::Byte => 1,

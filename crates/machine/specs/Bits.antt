@@ -1,5 +1,5 @@
 -- The bit instructions: a control byte says what is done to which bit of AL, the low half of A.
-use Rattle.std.specs.Prelude.{ℕ, ◌+◌, ◌-◌, ◌/◌, ◌%◌, ◌^◌, Bool, cond, Some, None, Option, ◌==◌, bit_and, bit_or, bit_xor}
+use Rattle.std.specs.Prelude.{ℕ, ◌+◌, ◌-◌, ◌/◌, ◌%◌, ◌^◌, Bool, Some, None, Option, ◌==◌, bit_and, bit_or, bit_xor, if◌then◌else◌}
 use Rattle.access.specs.declared.stop.Cause.TheVariants.{Undefined}
 use Rattle.machine.specs.Act.{Act, done, fail}
 use Rattle.machine.specs.Registers.{with_a, with_nz}
@@ -9,7 +9,13 @@ use Rattle.machine.specs.declared.registers.Registers.{Registers}
 
 -- the control byte's high half
 abbrev pub operation : ℕ → Option Operation
-operation h = cond (h == 0) (Some Test) (cond (h == 9) (Some Toggle) (cond (h == 10) (Some Place) (cond (h == 11) (Some Set) (cond (h == 14) (Some Clear) None))))
+operation h =
+    if h == 0 then Some Test
+    else if h == 9 then Some Toggle
+    else if h == 10 then Some Place
+    else if h == 11 then Some Set
+    else if h == 14 then Some Clear
+    else None
 
 -- bit 0 is the most significant of sixteen
 abbrev pub mask : ℕ → ℕ

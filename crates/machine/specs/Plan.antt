@@ -1,6 +1,8 @@
--- A step as a plan: what it asks of its rights, in order, what it makes of each answer, and its one ending.
+-- A step as a plan: what it asks, in order, what it makes of each answer, and its one ending.
 use Rattle.std.specs.Prelude.{ℕ, Ok, Err, Result}
-use Rattle.access.specs.Access.{Item, bind, half, item_read, Sight}
+use Rattle.access.specs.Access.{bind, item_read, Sight}
+use Rattle.access.specs.declared.item.Item.{Item}
+use Rattle.access.specs.declared.item.Item.TheVariants.{Halfword}
 use Rattle.access.specs.declared.stop.Cause.{Cause}
 use Rattle.access.specs.declared.stop.Cause.TheVariants.{Denied}
 use Rattle.access.specs.declared.stop.Denial.{Denial}
@@ -23,6 +25,6 @@ placed p (Err e) = Err (Denied p e)
 abbrev pub obey : {T : Type 0} → Sight → Plan T → Result T Cause
 obey v (give x) = Ok x
 obey v (halt c) = Err c
-obey v (fetch at) = placed Fetch (item_read half v.fetch at)
+obey v (fetch at) = placed Fetch (item_read Halfword v.fetch at)
 obey v (read p i at) = placed p (item_read i v.look at)
 obey v (t >>= f) = bind (obey v t) (λ x. obey v (f x))

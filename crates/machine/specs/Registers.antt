@@ -1,5 +1,5 @@
 -- Registers and markers, and what the common kinds of result do to them.
-use Rattle.std.specs.Prelude.{ℕ, ◌+◌, ◌-◌, ◌*◌, ◌%◌, ◌^◌, Bool, true, ◌||◌, Some, None, Option, ◌==◌, nat_le}
+use Rattle.std.specs.Prelude.{ℕ, ◌+◌, ◌-◌, ◌%◌, ◌^◌, Bool, true, ◌||◌, Some, None, Option, ◌==◌, nat_le}
 use Rattle.std.specs.Int.{Width}
 use mir.Val.{hbits}
 use Rattle.word.specs.declared.arithmetic.Outcome.{Outcome}
@@ -11,9 +11,6 @@ plus a b = (a + b) % 65536
 
 abbrev pub minus : ℕ → ℕ → ℕ
 minus a b = (a + (65536 - b)) % 65536
-
-abbrev pub times : ℕ → ℕ → ℕ
-times a b = (a * b) % 65536
 
 abbrev pub with_a : Registers → ℕ → Registers
 with_a r v = record r { a = v }
@@ -76,10 +73,6 @@ divided r (Some q) = loaded_x r q
 -- the next instruction
 abbrev pub advanced : Registers → Registers
 advanced r = with_s r (plus r.s 2)
-
--- a branch by D halfwords from the next instruction, which s is at
-abbrev pub jumped : Registers → ℕ → Registers
-jumped r d = with_s r (plus r.s (times d 2))
 
 -- s into z first
 abbrev pub linked : Registers → Registers

@@ -1,16 +1,18 @@
 ghost use Rattle.access.specs.Access.{held, sight_of};
-ghost use Rattle.machine.specs.Address.{base, far_base, formed, indirect};
+ghost use Rattle.machine.specs.Address;
+ghost use Rattle.machine.specs.Address.{base, far_base, formed, wrapped};
 ghost use Rattle.machine.specs.Plan.{obey, placed};
-ghost use Rattle.machine.specs.Registers.{advanced};
+ghost use Rattle.machine.specs.Registers.{advanced, with_s};
 ghost use Rattle.std.specs.Prelude.{◌≡◌};
 
 use crate::mode::Mode;
 use crate::registers::Registers;
-use access::{Cause, Denial, Item, Place, View};
-use isa::Format;
+use crate::terms::Terms;
+use access::{Cause, Denial, Held, Item, Place, View};
+use isa::{Format, Name};
 use store::Store;
 
-// A denial goes up with the place where it was met.
+/// A denial goes up with the place where it was met.
 #[inline(always)]
 pub fn at_place<T>(place: Place, res: Result<T, Denial>) -> Result<T, Cause>
     ensures { result ≡ placed place res }
@@ -18,75 +20,110 @@ pub fn at_place<T>(place: Place, res: Result<T, Denial>) -> Result<T, Cause>
     res.map_err(|denial| Cause::Denied(place, denial))
 }
 
-// S counts as at the next instruction, here and below.
+/// What the operand of an instruction is; a halfword also for one that has none in the store.
+pub fn item_of(name: Name) -> Item
+    ensures { result ≡ Address.item_of name }
+{
+    match name {
+        Name::Ldb | Name::Stb => Item::Byte,
+        Name::Ldw | Name::Stw | Name::Adw | Name::Sbw | Name::Cpw | Name::Nw => Item::Fullword,
+        _ => Item::Halfword,
+    }
+}
+
+// Every address that a step forms is formed here.
 #[inline(always)]
-fn base_of(r: &Registers, m: u8) -> u16
-    ensures { result ≡ base (advanced r.now) m }
+pub(crate) fn address(terms: Terms) -> Result<u16, Cause>
+    ensures { result ≡ Ok (wrapped terms) }
+{
+    Ok(terms.wrapped())
+}
+
+#[inline(always)]
+fn base_of(registers: &Registers, s: u16, m: u8) -> u16
+    ensures { result ≡ base (with_s registers.now s) m }
 {
     match m {
-        0 => r.l,
-        1 => r.s.wrapping_add(2),
-        2 => r.y,
-        _ => r.z,
+        0 => registers.l,
+        1 => s,
+        2 => registers.y,
+        _ => registers.z,
     }
 }
 
 #[inline(always)]
-fn far_base_of(r: &Registers, m: u8) -> u16
-    ensures { result ≡ far_base (advanced r.now) m }
+fn far_base_of(registers: &Registers, s: u16, m: u8) -> u16
+    ensures { result ≡ far_base (with_s registers.now s) m }
 {
-    if m == 1 { 0 } else { base_of(r, m) }
+    if m == 1 { 0 } else { base_of(registers, s, m) }
+}
+
+/// The address of an item by the formats without a pointer; none by the others. S is taken as it is given, at the next instruction.
+#[inline(always)]
+pub fn direct(mode: Mode, item: Item, s: u16, registers: &Registers) -> Option<Terms>
+    ensures { result ≡ Address.direct mode item (with_s registers.now s) }
+{
+    let offset = u32::from(mode.d) * u32::from(item.size());
+    match mode.format {
+        Format::A1 => Some(Terms::plain(offset)),
+        Format::A2 => Some(Terms::plain(u32::from(base_of(registers, s, mode.m)) + offset)),
+        Format::A5 => Some(Terms::indexed(
+            u32::from(far_base_of(registers, s, mode.m)) + offset,
+            registers.x,
+            item.size(),
+        )),
+        Format::A3 | Format::A4 | Format::L | Format::B => None,
+    }
+}
+
+#[inline(always)]
+fn pointer(mode: Mode, s: u16, registers: &Registers) -> Option<Terms>
+    ensures { result ≡ Address.pointer mode (with_s registers.now s) }
+{
+    let offset = u32::from(mode.d) * 2;
+    match mode.format {
+        Format::A3 => Some(Terms::plain(offset)),
+        Format::A4 => Some(Terms::plain(u32::from(base_of(registers, s, mode.m)) + offset)),
+        _ => None,
+    }
 }
 
 // One function for all: inlined, it would make the way of a step many times as long.
 #[inline(never)]
-fn form_indirect<S: Store>(at: u16, length: u16, x: u16, view: &View<S>) -> Result<u16, Cause>
-    ensures { result ≡ obey (sight_of view.now) (indirect at length x) }
+fn through<S: Store>(at: u16, x: u16, scale: u16, view: &View<S>) -> Result<u16, Cause>
+    ensures { result ≡ obey (sight_of view.now) (Address.through at x scale) }
 {
     let pointer = at_place(Place::Pointer, u16::read(view, at))?;
-    Ok(pointer.wrapping_add(x.wrapping_mul(length)))
+    address(Terms::indexed(u32::from(pointer), x, scale))
 }
 
-// The address of an operand of so many bytes.
+// The address of an operand.
 #[inline(always)]
 pub(crate) fn form<S: Store>(
     mode: Mode,
-    length: u16,
-    r: &Registers,
+    item: Item,
+    registers: &Registers,
     view: &View<S>,
 ) -> Result<u16, Cause>
-    ensures { result ≡ obey (sight_of view.now) (formed mode length (advanced r.now)) }
+    ensures { result ≡ obey (sight_of view.now) (formed mode item (advanced registers.now)) }
 {
-    let scaled = mode.d.wrapping_mul(length);
-    match mode.format {
-        Format::A1 => Ok(scaled),
-        Format::A2 => Ok(base_of(r, mode.m).wrapping_add(scaled)),
-        Format::A3 => form_indirect(mode.d.wrapping_mul(2), length, r.x, &view.again()),
-        Format::A4 => form_indirect(
-            base_of(r, mode.m).wrapping_add(mode.d.wrapping_mul(2)),
-            length,
-            r.x,
-            &view.again(),
-        ),
-        Format::A5 => Ok(
-            far_base_of(r, mode.m)
-                .wrapping_add(scaled)
-                .wrapping_add(r.x.wrapping_mul(length)),
-        ),
-        Format::L | Format::B => Err(Cause::Undefined),
+    let next = registers.s.wrapping_add(2);
+    if let Some(terms) = direct(mode, item, next, registers) {
+        return address(terms);
     }
+    let terms = pointer(mode, next, registers).ok_or(Cause::Undefined)?;
+    through(address(terms)?, registers.x, item.size(), &view.reborrow())
 }
 
-// The item that an instruction works on. Mode, registers and view stay three parameters: as one value their clause would be
-// `operand T.item self.now.mode self.now.registers` over `sight_of self.now.view.now`.
+// The item that an instruction works on.
 #[inline(always)]
-pub(crate) fn operand<T: Item, S: Store>(
+pub(crate) fn operand<T: Held, S: Store>(
     mode: Mode,
-    r: &Registers,
+    registers: &Registers,
     view: &View<S>,
 ) -> Result<T, Cause>
-    ensures { held T.bits result ≡ obey (sight_of view.now) (Rattle.machine.specs.Address.operand T.item mode (advanced r.now)) }
+    ensures { held T.bits result ≡ obey (sight_of view.now) (Address.operand T.ITEM mode (advanced registers.now)) }
 {
-    let at = form(mode, T::SIZE, r, view)?;
+    let at = form(mode, T::ITEM, registers, view)?;
     at_place(Place::Operand, T::read(view, at))
 }

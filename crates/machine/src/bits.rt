@@ -1,9 +1,8 @@
 ghost use Rattle.std.specs.Prelude.{◌≡◌, ◌<◌};
 ghost use Rattle.std.specs.Option.{ok_or};
-ghost use Rattle.access.specs.Access.{Sight};
+ghost use Rattle.access.specs.Access.{Viewed};
 ghost use Rattle.access.specs.declared.stop.Cause.TheVariants.{Undefined};
-ghost use Rattle.machine.specs.Act.{perform, settled, to_write};
-ghost use Rattle.machine.specs.Registers.{advanced};
+ghost use Rattle.machine.specs.Act.{ending, ending_of};
 ghost use Rattle.machine.specs.Bits.{altered, bit_done, controlled, ends_zero, mask, operation};
 
 use crate::pending::Pending;
@@ -89,8 +88,7 @@ fn operate(operation: Operation, bit: u8, registers: &mut Registers)
 // The control byte has the operation in its high half and the bit's number in its low half.
 #[inline(always)]
 pub(crate) fn control(byte: u8, registers: &mut Registers) -> Result<Option<Pending>, Cause>
-    ensures answers { (v : Sight) → result ≡ to_write (perform v (controlled byte (advanced registers.old))) }
-    ensures registers { (v : Sight) → registers.new ≡ settled registers.old (perform v (controlled byte (advanced registers.old))) }
+    ensures { (v : Viewed) → ending result registers.new ≡ ending_of (controlled byte) registers.old v }
 {
     let operation = Operation::try_from(byte / 16)?;
     registers.advance();

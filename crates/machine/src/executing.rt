@@ -1,8 +1,12 @@
-ghost use Rattle.std.specs.Prelude.{◌≡◌, ◌+◌, ◌%◌};
-ghost use Rattle.machine.specs.Act.{settled, to_write};
-ghost use Rattle.machine.specs.Instructions.{branched, branched_on_overflow, does};
-ghost use Rattle.machine.specs.Registers.{advanced};
+ghost use Rattle.access.specs.Access.{Viewed};
+ghost use Rattle.machine.specs.Act.{ending, ending_of};
+ghost use Rattle.machine.specs.Address;
+ghost use Rattle.machine.specs.Address.{wrapped};
+ghost use Rattle.machine.specs.Instructions.{branched_if, does};
+ghost use Rattle.machine.specs.Registers.{advanced, with_of};
+ghost use Rattle.std.specs.Prelude.{◌≡◌, ◌+◌, ◌%◌, false};
 
+use crate::address::address;
 use crate::bits::control;
 use crate::loads::*;
 use crate::mode::Mode;
@@ -11,33 +15,46 @@ use crate::pointers::*;
 use crate::products::*;
 use crate::registers::Registers;
 use crate::stores::*;
-use crate::strings::{compare, move_byte, move_half, move_nearer, scan, translate};
+use crate::strings::{compare, move_item, move_nearer, scan, translate};
 use crate::sums::*;
+use crate::terms::Terms;
 use access::{Cause, View};
 use isa::Name;
 use store::Store;
 use word::arithmetic::{add, multiply, subtract};
 
+// Where a branch goes.
 #[inline(always)]
-fn branch(taken: bool, d: u16, registers: &mut Registers)
-    ensures { registers.new ≡ branched taken d (advanced registers.old) }
+fn target(d: u16, registers: &Registers) -> Result<u16, Cause>
+    ensures { result ≡ Ok (wrapped (Address.target d (advanced registers.now))) }
 {
-    registers.advance();
+    address(Terms::indexed(u32::from(registers.s.wrapping_add(2)), d, 2))
+}
+
+#[inline(always)]
+fn branch(taken: bool, d: u16, registers: &mut Registers) -> Result<Option<Pending>, Cause>
+    ensures { (v : Viewed) → ending result registers.new ≡ ending_of (λ r. branched_if taken d r r) registers.old v }
+{
     if taken {
-        registers.jump(d);
+        registers.s = target(d, registers)?;
+    } else {
+        registers.advance();
     }
+    Ok(None)
 }
 
 // Clears OF where it is taken.
 #[inline(always)]
-fn branch_on_overflow(d: u16, registers: &mut Registers)
-    ensures { registers.new ≡ branched_on_overflow d (advanced registers.old) }
+fn branch_on_overflow(d: u16, registers: &mut Registers) -> Result<Option<Pending>, Cause>
+    ensures { (v : Viewed) → ending result registers.new ≡ ending_of (λ r. branched_if r.of d r (with_of r false)) registers.old v }
 {
-    registers.advance();
     if registers.of {
+        registers.s = target(d, registers)?;
         registers.of = false;
-        registers.jump(d);
+    } else {
+        registers.advance();
     }
+    Ok(None)
 }
 
 #[inline(always)]
@@ -63,8 +80,7 @@ pub fn execute<S: Store>(
     registers: &mut Registers,
     view: &View<S>,
 ) -> Result<Option<Pending>, Cause>
-    ensures answers { result ≡ to_write (does name mode (advanced registers.old) view.now.rights view.now.bytes) }
-    ensures registers { registers.new ≡ settled registers.old (does name mode (advanced registers.old) view.now.rights view.now.bytes) }
+    ensures { ending result registers.new ≡ does name mode registers.old view.now }
 {
     let d = mode.d;
     let literal = u32::from(d);
@@ -107,11 +123,11 @@ pub fn execute<S: Store>(
             registers.end_string();
             Ok(None)
         }
-        Name::Mbs => move_byte(registers, move_nearer(registers.x), view),
+        Name::Mbs => move_item::<u8, S>(registers, move_nearer(registers.x), view),
         Name::Cpbs => compare(registers, move_nearer(registers.x), view),
         Name::Trbs => translate(registers, move_nearer(registers.x), view),
         Name::Scbs => scan(registers, move_nearer(registers.x), view),
-        Name::Mhs => move_half(registers, move_nearer(registers.x), view),
+        Name::Mhs => move_item::<u16, S>(registers, move_nearer(registers.x), view),
         Name::Hrk => Err(Cause::Halt),
         Name::Ldl => {
             registers.advance();
@@ -143,38 +159,21 @@ pub fn execute<S: Store>(
             registers.compute_a(multiply(registers.a, literal, registers.ca));
             Ok(None)
         }
-        Name::Bz => {
-            branch(registers.zr, d, registers);
-            Ok(None)
-        }
-        Name::Bnz => {
-            branch(!registers.zr, d, registers);
-            Ok(None)
-        }
-        Name::Bn => {
-            branch(registers.n, d, registers);
-            Ok(None)
-        }
-        Name::Bnn => {
-            branch(!registers.n, d, registers);
-            Ok(None)
-        }
-        Name::Bca => {
-            branch(registers.ca, d, registers);
-            Ok(None)
-        }
-        Name::Bof => {
-            branch_on_overflow(d, registers);
-            Ok(None)
-        }
+        Name::Bz => branch(registers.zr, d, registers),
+        Name::Bnz => branch(!registers.zr, d, registers),
+        Name::Bn => branch(registers.n, d, registers),
+        Name::Bnn => branch(!registers.n, d, registers),
+        Name::Bca => branch(registers.ca, d, registers),
+        Name::Bof => branch_on_overflow(d, registers),
         Name::B => {
-            branch(true, d, registers);
+            registers.s = target(d, registers)?;
             Ok(None)
         }
         Name::Bl => {
+            let to = target(d, registers)?;
             registers.advance();
             registers.link();
-            registers.jump(d);
+            registers.s = to;
             Ok(None)
         }
         Name::Rk | Name::Sfn => {

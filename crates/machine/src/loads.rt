@@ -1,7 +1,6 @@
 ghost use Rattle.isa.specs.declared.name.Name.TheVariants.{Ldb, Ld, Ldw, Ldx};
-ghost use Rattle.machine.specs.Act.{settled, to_write};
+ghost use Rattle.machine.specs.Act.{ending};
 ghost use Rattle.machine.specs.Instructions.{does};
-ghost use Rattle.machine.specs.Registers.{advanced};
 ghost use Rattle.std.specs.Prelude.{◌≡◌};
 
 use crate::address::operand;
@@ -10,15 +9,14 @@ use crate::pending::Pending;
 use crate::registers::Registers;
 use access::{Cause, View};
 use store::Store;
-use word::bytes::extend;
+use word::arithmetic::resize;
 
 pub(crate) fn ldb<S: Store>(
     mode: Mode,
     registers: &mut Registers,
     view: &View<S>,
 ) -> Result<Option<Pending>, Cause>
-    ensures answers { result ≡ to_write (does Ldb mode (advanced registers.old) view.now.rights view.now.bytes) }
-    ensures registers { registers.new ≡ settled registers.old (does Ldb mode (advanced registers.old) view.now.rights view.now.bytes) }
+    ensures { ending result registers.new ≡ does Ldb mode registers.old view.now }
 {
     let v: u8 = operand(mode, registers, view)?;
     registers.advance();
@@ -31,12 +29,11 @@ pub(crate) fn ld<S: Store>(
     registers: &mut Registers,
     view: &View<S>,
 ) -> Result<Option<Pending>, Cause>
-    ensures answers { result ≡ to_write (does Ld mode (advanced registers.old) view.now.rights view.now.bytes) }
-    ensures registers { registers.new ≡ settled registers.old (does Ld mode (advanced registers.old) view.now.rights view.now.bytes) }
+    ensures { ending result registers.new ≡ does Ld mode registers.old view.now }
 {
     let v: u16 = operand(mode, registers, view)?;
     registers.advance();
-    registers.load_a(extend(v));
+    registers.load_a(resize(v));
     Ok(None)
 }
 
@@ -45,8 +42,7 @@ pub(crate) fn ldw<S: Store>(
     registers: &mut Registers,
     view: &View<S>,
 ) -> Result<Option<Pending>, Cause>
-    ensures answers { result ≡ to_write (does Ldw mode (advanced registers.old) view.now.rights view.now.bytes) }
-    ensures registers { registers.new ≡ settled registers.old (does Ldw mode (advanced registers.old) view.now.rights view.now.bytes) }
+    ensures { ending result registers.new ≡ does Ldw mode registers.old view.now }
 {
     let v: u32 = operand(mode, registers, view)?;
     registers.advance();
@@ -59,8 +55,7 @@ pub(crate) fn ldx<S: Store>(
     registers: &mut Registers,
     view: &View<S>,
 ) -> Result<Option<Pending>, Cause>
-    ensures answers { result ≡ to_write (does Ldx mode (advanced registers.old) view.now.rights view.now.bytes) }
-    ensures registers { registers.new ≡ settled registers.old (does Ldx mode (advanced registers.old) view.now.rights view.now.bytes) }
+    ensures { ending result registers.new ≡ does Ldx mode registers.old view.now }
 {
     let v: u16 = operand(mode, registers, view)?;
     registers.advance();

@@ -1,7 +1,6 @@
 ghost use Rattle.isa.specs.declared.name.Name.TheVariants.{Ldy, Ady, Sby, Ldz, Adz, Sbz, Bi, Bli};
-ghost use Rattle.machine.specs.Act.{settled, to_write};
+ghost use Rattle.machine.specs.Act.{ending};
 ghost use Rattle.machine.specs.Instructions.{does};
-ghost use Rattle.machine.specs.Registers.{advanced};
 ghost use Rattle.std.specs.Prelude.{◌≡◌};
 
 use crate::address::operand;
@@ -18,8 +17,7 @@ pub(crate) fn ldy<S: Store>(
     registers: &mut Registers,
     view: &View<S>,
 ) -> Result<Option<Pending>, Cause>
-    ensures answers { result ≡ to_write (does Ldy mode (advanced registers.old) view.now.rights view.now.bytes) }
-    ensures registers { registers.new ≡ settled registers.old (does Ldy mode (advanced registers.old) view.now.rights view.now.bytes) }
+    ensures { ending result registers.new ≡ does Ldy mode registers.old view.now }
 {
     let v: u16 = operand(mode, registers, view)?;
     registers.advance();
@@ -32,8 +30,7 @@ pub(crate) fn ady<S: Store>(
     registers: &mut Registers,
     view: &View<S>,
 ) -> Result<Option<Pending>, Cause>
-    ensures answers { result ≡ to_write (does Ady mode (advanced registers.old) view.now.rights view.now.bytes) }
-    ensures registers { registers.new ≡ settled registers.old (does Ady mode (advanced registers.old) view.now.rights view.now.bytes) }
+    ensures { ending result registers.new ≡ does Ady mode registers.old view.now }
 {
     let v: u16 = operand(mode, registers, view)?;
     registers.advance();
@@ -46,8 +43,7 @@ pub(crate) fn sby<S: Store>(
     registers: &mut Registers,
     view: &View<S>,
 ) -> Result<Option<Pending>, Cause>
-    ensures answers { result ≡ to_write (does Sby mode (advanced registers.old) view.now.rights view.now.bytes) }
-    ensures registers { registers.new ≡ settled registers.old (does Sby mode (advanced registers.old) view.now.rights view.now.bytes) }
+    ensures { ending result registers.new ≡ does Sby mode registers.old view.now }
 {
     let v: u16 = operand(mode, registers, view)?;
     registers.advance();
@@ -60,8 +56,7 @@ pub(crate) fn ldz<S: Store>(
     registers: &mut Registers,
     view: &View<S>,
 ) -> Result<Option<Pending>, Cause>
-    ensures answers { result ≡ to_write (does Ldz mode (advanced registers.old) view.now.rights view.now.bytes) }
-    ensures registers { registers.new ≡ settled registers.old (does Ldz mode (advanced registers.old) view.now.rights view.now.bytes) }
+    ensures { ending result registers.new ≡ does Ldz mode registers.old view.now }
 {
     let v: u16 = operand(mode, registers, view)?;
     registers.advance();
@@ -74,8 +69,7 @@ pub(crate) fn adz<S: Store>(
     registers: &mut Registers,
     view: &View<S>,
 ) -> Result<Option<Pending>, Cause>
-    ensures answers { result ≡ to_write (does Adz mode (advanced registers.old) view.now.rights view.now.bytes) }
-    ensures registers { registers.new ≡ settled registers.old (does Adz mode (advanced registers.old) view.now.rights view.now.bytes) }
+    ensures { ending result registers.new ≡ does Adz mode registers.old view.now }
 {
     let v: u16 = operand(mode, registers, view)?;
     registers.advance();
@@ -88,8 +82,7 @@ pub(crate) fn sbz<S: Store>(
     registers: &mut Registers,
     view: &View<S>,
 ) -> Result<Option<Pending>, Cause>
-    ensures answers { result ≡ to_write (does Sbz mode (advanced registers.old) view.now.rights view.now.bytes) }
-    ensures registers { registers.new ≡ settled registers.old (does Sbz mode (advanced registers.old) view.now.rights view.now.bytes) }
+    ensures { ending result registers.new ≡ does Sbz mode registers.old view.now }
 {
     let v: u16 = operand(mode, registers, view)?;
     registers.advance();
@@ -102,8 +95,7 @@ pub(crate) fn bi<S: Store>(
     registers: &mut Registers,
     view: &View<S>,
 ) -> Result<Option<Pending>, Cause>
-    ensures answers { result ≡ to_write (does Bi mode (advanced registers.old) view.now.rights view.now.bytes) }
-    ensures registers { registers.new ≡ settled registers.old (does Bi mode (advanced registers.old) view.now.rights view.now.bytes) }
+    ensures { ending result registers.new ≡ does Bi mode registers.old view.now }
 {
     let v: u16 = operand(mode, registers, view)?;
     registers.advance();
@@ -116,8 +108,7 @@ pub(crate) fn bli<S: Store>(
     registers: &mut Registers,
     view: &View<S>,
 ) -> Result<Option<Pending>, Cause>
-    ensures answers { result ≡ to_write (does Bli mode (advanced registers.old) view.now.rights view.now.bytes) }
-    ensures registers { registers.new ≡ settled registers.old (does Bli mode (advanced registers.old) view.now.rights view.now.bytes) }
+    ensures { ending result registers.new ≡ does Bli mode registers.old view.now }
 {
     let v: u16 = operand(mode, registers, view)?;
     registers.advance();

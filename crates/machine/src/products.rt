@@ -1,7 +1,6 @@
 ghost use Rattle.isa.specs.declared.name.Name.TheVariants.{Nw, Nx, Mx, Dx};
-ghost use Rattle.machine.specs.Act.{settled, to_write};
+ghost use Rattle.machine.specs.Act.{ending};
 ghost use Rattle.machine.specs.Instructions.{does};
-ghost use Rattle.machine.specs.Registers.{advanced};
 ghost use Rattle.std.specs.Prelude.{◌≡◌};
 
 use crate::address::operand;
@@ -17,8 +16,7 @@ pub(crate) fn nw<S: Store>(
     registers: &mut Registers,
     view: &View<S>,
 ) -> Result<Option<Pending>, Cause>
-    ensures answers { result ≡ to_write (does Nw mode (advanced registers.old) view.now.rights view.now.bytes) }
-    ensures registers { registers.new ≡ settled registers.old (does Nw mode (advanced registers.old) view.now.rights view.now.bytes) }
+    ensures { ending result registers.new ≡ does Nw mode registers.old view.now }
 {
     let v: u32 = operand(mode, registers, view)?;
     registers.advance();
@@ -31,8 +29,7 @@ pub(crate) fn nx<S: Store>(
     registers: &mut Registers,
     view: &View<S>,
 ) -> Result<Option<Pending>, Cause>
-    ensures answers { result ≡ to_write (does Nx mode (advanced registers.old) view.now.rights view.now.bytes) }
-    ensures registers { registers.new ≡ settled registers.old (does Nx mode (advanced registers.old) view.now.rights view.now.bytes) }
+    ensures { ending result registers.new ≡ does Nx mode registers.old view.now }
 {
     let v: u16 = operand(mode, registers, view)?;
     registers.advance();
@@ -45,8 +42,7 @@ pub(crate) fn mx<S: Store>(
     registers: &mut Registers,
     view: &View<S>,
 ) -> Result<Option<Pending>, Cause>
-    ensures answers { result ≡ to_write (does Mx mode (advanced registers.old) view.now.rights view.now.bytes) }
-    ensures registers { registers.new ≡ settled registers.old (does Mx mode (advanced registers.old) view.now.rights view.now.bytes) }
+    ensures { ending result registers.new ≡ does Mx mode registers.old view.now }
 {
     let v: u16 = operand(mode, registers, view)?;
     registers.advance();
@@ -59,8 +55,7 @@ pub(crate) fn dx<S: Store>(
     registers: &mut Registers,
     view: &View<S>,
 ) -> Result<Option<Pending>, Cause>
-    ensures answers { result ≡ to_write (does Dx mode (advanced registers.old) view.now.rights view.now.bytes) }
-    ensures registers { registers.new ≡ settled registers.old (does Dx mode (advanced registers.old) view.now.rights view.now.bytes) }
+    ensures { ending result registers.new ≡ does Dx mode registers.old view.now }
 {
     let v: u16 = operand(mode, registers, view)?;
     registers.advance();

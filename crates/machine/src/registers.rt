@@ -1,11 +1,11 @@
-ghost use Rattle.machine.specs.Registers.{advanced, computed_a, computed_x, divided, jumped, linked, loaded_a, loaded_x, marked, signed};
+ghost use Rattle.machine.specs.Registers.{advanced, computed_a, computed_x, divided, linked, loaded_a, loaded_x, marked, signed};
 ghost use Rattle.std.specs.Prelude.{◌≡◌, ◌%◌};
 
 use word::Register;
 use word::arithmetic::Outcome;
 
-// The registers and markers of a program. A and B have 32 bits; X, Y, Z, S and L have 16.
-// FM is floating mode, N negative, ZR zero, OF overflow, CA carry.
+/// The registers and markers of a program. A and B have 32 bits; X, Y, Z, S and L have 16. FM is floating mode, N negative, ZR zero, OF
+/// overflow, CA carry.
 #[derive(Clone, Copy, Debug, Default, PartialEq, Eq)]
 pub struct Registers {
     pub a: u32,
@@ -108,14 +108,6 @@ impl Registers {
             Some(q) => self.load_x(q),
             None => self.of = true,
         }
-    }
-
-    // A branch by so many halfwords.
-    #[inline(always)]
-    pub(crate) fn jump(&mut self, d: u16)
-        ensures { self.new ≡ jumped self.old d }
-    {
-        self.s = self.s.wrapping_add(d.wrapping_mul(2));
     }
 
     // S into Z, for the way back.

@@ -1,6 +1,7 @@
-ghost use Rattle.access.specs.Access.{bind, sight_of, size};
+ghost use Rattle.access.specs.Access.{bind, sight_of};
 ghost use Rattle.isa.specs.declared.name.Name.TheVariants.{St, Stb, Stw, Stx, Sty, Stz};
-ghost use Rattle.machine.specs.Act.{claimed, settled, to_write};
+ghost use Rattle.machine.specs.Act;
+ghost use Rattle.machine.specs.Act.{ending};
 ghost use Rattle.machine.specs.Address.{formed};
 ghost use Rattle.machine.specs.Instructions.{does, stored_byte, stored_full, stored_half, stored_x};
 ghost use Rattle.machine.specs.Plan.{obey};
@@ -21,7 +22,7 @@ pub(crate) fn claim<T: Stored, S: Store>(
     value: T,
     view: &View<S>,
 ) -> Result<Pending, Cause>
-    ensures { result ≡ claimed (sight_of view.now) T.Item.item at (T.Item.bits value) }
+    ensures { result ≡ Act.claim (sight_of view.now) T.Held.ITEM at (T.Held.bits value) }
 {
     at_place(Place::Operand, view.may_write::<T>(at))?;
     Ok(value.pending(at))
@@ -31,13 +32,14 @@ pub(crate) fn claim<T: Stored, S: Store>(
 #[inline(always)]
 fn claim_operand<T: Stored, S: Store>(
     mode: Mode,
-    r: &Registers,
+    registers: &Registers,
     value: T,
     view: &View<S>,
 ) -> Result<Pending, Cause>
-    ensures { result ≡ bind (obey (sight_of view.now) (formed mode (size T.Item.item) (advanced r.now))) (λ at. claimed (sight_of view.now) T.Item.item at (T.Item.bits value)) }
+    ensures { result ≡ bind (obey (sight_of view.now) (formed mode T.Held.ITEM (advanced registers.now)))
+        (λ at. Act.claim (sight_of view.now) T.Held.ITEM at (T.Held.bits value)) }
 {
-    let at = form(mode, T::SIZE, r, view)?;
+    let at = form(mode, T::ITEM, registers, view)?;
     claim(at, value, view)
 }
 
@@ -84,8 +86,7 @@ pub(crate) fn stb<S: Store>(
     registers: &mut Registers,
     view: &View<S>,
 ) -> Result<Option<Pending>, Cause>
-    ensures answers { result ≡ to_write (does Stb mode (advanced registers.old) view.now.rights view.now.bytes) }
-    ensures registers { registers.new ≡ settled registers.old (does Stb mode (advanced registers.old) view.now.rights view.now.bytes) }
+    ensures { ending result registers.new ≡ does Stb mode registers.old view.now }
 {
     let pending = claim_operand(mode, registers, registers.low_byte(), view)?;
     registers.advance();
@@ -98,8 +99,7 @@ pub(crate) fn st<S: Store>(
     registers: &mut Registers,
     view: &View<S>,
 ) -> Result<Option<Pending>, Cause>
-    ensures answers { result ≡ to_write (does St mode (advanced registers.old) view.now.rights view.now.bytes) }
-    ensures registers { registers.new ≡ settled registers.old (does St mode (advanced registers.old) view.now.rights view.now.bytes) }
+    ensures { ending result registers.new ≡ does St mode registers.old view.now }
 {
     let pending = claim_operand(mode, registers, registers.low_half(), view)?;
     registers.advance();
@@ -112,8 +112,7 @@ pub(crate) fn stw<S: Store>(
     registers: &mut Registers,
     view: &View<S>,
 ) -> Result<Option<Pending>, Cause>
-    ensures answers { result ≡ to_write (does Stw mode (advanced registers.old) view.now.rights view.now.bytes) }
-    ensures registers { registers.new ≡ settled registers.old (does Stw mode (advanced registers.old) view.now.rights view.now.bytes) }
+    ensures { ending result registers.new ≡ does Stw mode registers.old view.now }
 {
     let pending = claim_operand(mode, registers, registers.a, view)?;
     registers.advance();
@@ -126,8 +125,7 @@ pub(crate) fn stx<S: Store>(
     registers: &mut Registers,
     view: &View<S>,
 ) -> Result<Option<Pending>, Cause>
-    ensures answers { result ≡ to_write (does Stx mode (advanced registers.old) view.now.rights view.now.bytes) }
-    ensures registers { registers.new ≡ settled registers.old (does Stx mode (advanced registers.old) view.now.rights view.now.bytes) }
+    ensures { ending result registers.new ≡ does Stx mode registers.old view.now }
 {
     let pending = claim_operand(mode, registers, registers.x, view)?;
     registers.advance();
@@ -140,8 +138,7 @@ pub(crate) fn sty<S: Store>(
     registers: &mut Registers,
     view: &View<S>,
 ) -> Result<Option<Pending>, Cause>
-    ensures answers { result ≡ to_write (does Sty mode (advanced registers.old) view.now.rights view.now.bytes) }
-    ensures registers { registers.new ≡ settled registers.old (does Sty mode (advanced registers.old) view.now.rights view.now.bytes) }
+    ensures { ending result registers.new ≡ does Sty mode registers.old view.now }
 {
     let pending = claim_operand(mode, registers, registers.y, view)?;
     registers.advance();
@@ -153,8 +150,7 @@ pub(crate) fn stz<S: Store>(
     registers: &mut Registers,
     view: &View<S>,
 ) -> Result<Option<Pending>, Cause>
-    ensures answers { result ≡ to_write (does Stz mode (advanced registers.old) view.now.rights view.now.bytes) }
-    ensures registers { registers.new ≡ settled registers.old (does Stz mode (advanced registers.old) view.now.rights view.now.bytes) }
+    ensures { ending result registers.new ≡ does Stz mode registers.old view.now }
 {
     let pending = claim_operand(mode, registers, registers.z, view)?;
     registers.advance();

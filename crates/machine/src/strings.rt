@@ -1,16 +1,16 @@
 ghost use Rattle.access.specs.Access.{bind, sight_of};
-ghost use Rattle.access.specs.declared.stop.Place.TheVariants.{Operand};
-ghost use Rattle.machine.specs.Act.{claimed, perform, settled, to_write};
-ghost use Rattle.machine.specs.Plan.{obey, read};
-ghost use Rattle.machine.specs.Registers.{advanced};
-ghost use Rattle.machine.specs.Strings.{complete, compared, judged, moved_byte, moved_half, nearer, passed, scanned, translated};
+ghost use Rattle.access.specs.declared.item.Item.TheVariants.{Byte};
+ghost use Rattle.machine.specs.Act.{ending, ending_of};
+ghost use Rattle.machine.specs.Address.{element, entry};
+ghost use Rattle.machine.specs.Strings.{compared, complete, judged, moved, nearer, passed, scanned, translated};
 ghost use Rattle.std.specs.Prelude.{◌≡◌};
 
-use crate::address::at_place;
+use crate::address::{address, at_place};
 use crate::pending::{Pending, Stored};
 use crate::registers::Registers;
 use crate::stores::claim;
-use access::{Cause, Item, Place, View};
+use crate::terms::Terms;
+use access::{Cause, Held, Item, Place, View};
 use store::Store;
 
 // X moved by one towards zero.
@@ -63,52 +63,36 @@ impl Registers {
     }
 }
 
-// An item is read at one address, and leave is asked to write it at another.
+// Where the element X of a string lies.
 #[inline(always)]
-fn transfer<T: Stored, S: Store>(from: u16, to: u16, view: &View<S>) -> Result<Pending, Cause>
-    ensures { result ≡ bind (obey (sight_of view.now) (read Operand T.Item.item from)) (λ v. claimed (sight_of view.now) T.Item.item to v) }
+fn element_at(item: Item, start: u16, x: u16) -> Terms
+    ensures { result ≡ element item start x }
 {
-    let moved: T = at_place(Place::Operand, T::read(view, from))?;
-    claim(to, moved, view)
+    Terms::indexed(u32::from(start), x, item.size())
+}
+
+// Where a byte of a table lies.
+#[inline(always)]
+fn entry_at(start: u16, byte: u8) -> Terms
+    ensures { result ≡ entry start byte }
+{
+    Terms::plain(u32::from(start) + u32::from(byte))
 }
 
 // The step of an element takes the registers, the new X and the view, as its rule takes the registers and the new X: a value of the three
 // would be made for one call.
-// Bytes and halfwords have a function each: the places of bytes are not multiplied by 1 in the rules, nor here.
 #[inline(always)]
-pub(crate) fn move_byte<S: Store>(
+pub(crate) fn move_item<T: Stored, S: Store>(
     registers: &mut Registers,
     x: u16,
     view: &View<S>,
 ) -> Result<Option<Pending>, Cause>
-    ensures answers { result ≡ to_write (perform (sight_of view.now) (moved_byte (advanced registers.old) x)) }
-    ensures registers { registers.new ≡ settled registers.old (perform (sight_of view.now) (moved_byte (advanced registers.old) x)) }
+    ensures { ending result registers.new ≡ ending_of (λ r. moved T.Held.ITEM r x) registers.old view.now }
 {
-    let pending = transfer::<u8, S>(
-        registers.z.wrapping_add(x),
-        registers.y.wrapping_add(x),
-        view,
-    )?;
-    registers.advance();
-    registers.pass(x);
-    Ok(Some(pending))
-}
-
-#[inline(always)]
-pub(crate) fn move_half<S: Store>(
-    registers: &mut Registers,
-    x: u16,
-    view: &View<S>,
-) -> Result<Option<Pending>, Cause>
-    ensures answers { result ≡ to_write (perform (sight_of view.now) (moved_half (advanced registers.old) x)) }
-    ensures registers { registers.new ≡ settled registers.old (perform (sight_of view.now) (moved_half (advanced registers.old) x)) }
-{
-    let distance = x.wrapping_mul(2);
-    let pending = transfer::<u16, S>(
-        registers.z.wrapping_add(distance),
-        registers.y.wrapping_add(distance),
-        view,
-    )?;
+    let from = address(element_at(T::ITEM, registers.z, x))?;
+    let moved: T = at_place(Place::Operand, T::read(view, from))?;
+    let to = address(element_at(T::ITEM, registers.y, x))?;
+    let pending = claim(to, moved, view)?;
     registers.advance();
     registers.pass(x);
     Ok(Some(pending))
@@ -120,12 +104,13 @@ pub(crate) fn translate<S: Store>(
     x: u16,
     view: &View<S>,
 ) -> Result<Option<Pending>, Cause>
-    ensures answers { result ≡ to_write (perform (sight_of view.now) (translated (advanced registers.old) x)) }
-    ensures registers { registers.new ≡ settled registers.old (perform (sight_of view.now) (translated (advanced registers.old) x)) }
+    ensures { ending result registers.new ≡ ending_of (λ r. translated r x) registers.old view.now }
 {
-    let at = registers.y.wrapping_add(x);
-    let old = at_place(Place::Operand, u8::read(view, at))?;
-    let pending = transfer::<u8, S>(registers.z.wrapping_add(u16::from(old)), at, view)?;
+    let at = address(element_at(Item::Byte, registers.y, x))?;
+    let byte = at_place(Place::Operand, u8::read(view, at))?;
+    let from = address(entry_at(registers.z, byte))?;
+    let translated = at_place(Place::Operand, u8::read(view, from))?;
+    let pending = claim(at, translated, view)?;
     registers.advance();
     registers.pass(x);
     Ok(Some(pending))
@@ -137,11 +122,12 @@ pub(crate) fn compare<S: Store>(
     x: u16,
     view: &View<S>,
 ) -> Result<Option<Pending>, Cause>
-    ensures answers { result ≡ to_write (perform (sight_of view.now) (compared (advanced registers.old) x)) }
-    ensures registers { registers.new ≡ settled registers.old (perform (sight_of view.now) (compared (advanced registers.old) x)) }
+    ensures { ending result registers.new ≡ ending_of (λ r. compared r x) registers.old view.now }
 {
-    let one = at_place(Place::Operand, u8::read(view, registers.z.wrapping_add(x)))?;
-    let other = at_place(Place::Operand, u8::read(view, registers.y.wrapping_add(x)))?;
+    let from = address(element_at(Item::Byte, registers.z, x))?;
+    let one = at_place(Place::Operand, u8::read(view, from))?;
+    let at = address(element_at(Item::Byte, registers.y, x))?;
+    let other = at_place(Place::Operand, u8::read(view, at))?;
     registers.advance();
     registers.judge(x, one != other, one < other);
     Ok(None)
@@ -153,15 +139,13 @@ pub(crate) fn scan<S: Store>(
     x: u16,
     view: &View<S>,
 ) -> Result<Option<Pending>, Cause>
-    ensures answers { result ≡ to_write (perform (sight_of view.now) (scanned (advanced registers.old) x)) }
-    ensures registers { registers.new ≡ settled registers.old (perform (sight_of view.now) (scanned (advanced registers.old) x)) }
+    ensures { ending result registers.new ≡ ending_of (λ r. scanned r x) registers.old view.now }
 {
-    let byte = at_place(Place::Operand, u8::read(view, registers.y.wrapping_add(x)))?;
-    let entry = at_place(
-        Place::Operand,
-        u8::read(view, registers.z.wrapping_add(u16::from(byte))),
-    )?;
+    let at = address(element_at(Item::Byte, registers.y, x))?;
+    let byte = at_place(Place::Operand, u8::read(view, at))?;
+    let from = address(entry_at(registers.z, byte))?;
+    let found = at_place(Place::Operand, u8::read(view, from))?;
     registers.advance();
-    registers.judge(x, entry & registers.low_byte() != 0, false);
+    registers.judge(x, found & registers.low_byte() != 0, false);
     Ok(None)
 }

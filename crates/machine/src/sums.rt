@@ -1,7 +1,6 @@
 ghost use Rattle.isa.specs.declared.name.Name.TheVariants.{Ad, Adw, Adx, Sb, Sbw, Sbx, Cp, Cpw, Cpx};
-ghost use Rattle.machine.specs.Act.{settled, to_write};
+ghost use Rattle.machine.specs.Act.{ending};
 ghost use Rattle.machine.specs.Instructions.{does};
-ghost use Rattle.machine.specs.Registers.{advanced};
 ghost use Rattle.std.specs.Prelude.{◌≡◌};
 
 use crate::address::operand;
@@ -11,19 +10,17 @@ use crate::registers::Registers;
 use access::{Cause, View};
 use store::Store;
 use word::arithmetic::{add, subtract};
-use word::bytes::extend;
 
 pub(crate) fn ad<S: Store>(
     mode: Mode,
     registers: &mut Registers,
     view: &View<S>,
 ) -> Result<Option<Pending>, Cause>
-    ensures answers { result ≡ to_write (does Ad mode (advanced registers.old) view.now.rights view.now.bytes) }
-    ensures registers { registers.new ≡ settled registers.old (does Ad mode (advanced registers.old) view.now.rights view.now.bytes) }
+    ensures { ending result registers.new ≡ does Ad mode registers.old view.now }
 {
     let v: u16 = operand(mode, registers, view)?;
     registers.advance();
-    registers.compute_a(add(registers.a, extend(v)));
+    registers.compute_a(add(registers.a, v));
     Ok(None)
 }
 
@@ -32,8 +29,7 @@ pub(crate) fn adw<S: Store>(
     registers: &mut Registers,
     view: &View<S>,
 ) -> Result<Option<Pending>, Cause>
-    ensures answers { result ≡ to_write (does Adw mode (advanced registers.old) view.now.rights view.now.bytes) }
-    ensures registers { registers.new ≡ settled registers.old (does Adw mode (advanced registers.old) view.now.rights view.now.bytes) }
+    ensures { ending result registers.new ≡ does Adw mode registers.old view.now }
 {
     let v: u32 = operand(mode, registers, view)?;
     registers.advance();
@@ -46,8 +42,7 @@ pub(crate) fn adx<S: Store>(
     registers: &mut Registers,
     view: &View<S>,
 ) -> Result<Option<Pending>, Cause>
-    ensures answers { result ≡ to_write (does Adx mode (advanced registers.old) view.now.rights view.now.bytes) }
-    ensures registers { registers.new ≡ settled registers.old (does Adx mode (advanced registers.old) view.now.rights view.now.bytes) }
+    ensures { ending result registers.new ≡ does Adx mode registers.old view.now }
 {
     let v: u16 = operand(mode, registers, view)?;
     registers.advance();
@@ -60,12 +55,11 @@ pub(crate) fn sb<S: Store>(
     registers: &mut Registers,
     view: &View<S>,
 ) -> Result<Option<Pending>, Cause>
-    ensures answers { result ≡ to_write (does Sb mode (advanced registers.old) view.now.rights view.now.bytes) }
-    ensures registers { registers.new ≡ settled registers.old (does Sb mode (advanced registers.old) view.now.rights view.now.bytes) }
+    ensures { ending result registers.new ≡ does Sb mode registers.old view.now }
 {
     let v: u16 = operand(mode, registers, view)?;
     registers.advance();
-    registers.compute_a(subtract(registers.a, extend(v)));
+    registers.compute_a(subtract(registers.a, v));
     Ok(None)
 }
 
@@ -74,8 +68,7 @@ pub(crate) fn sbw<S: Store>(
     registers: &mut Registers,
     view: &View<S>,
 ) -> Result<Option<Pending>, Cause>
-    ensures answers { result ≡ to_write (does Sbw mode (advanced registers.old) view.now.rights view.now.bytes) }
-    ensures registers { registers.new ≡ settled registers.old (does Sbw mode (advanced registers.old) view.now.rights view.now.bytes) }
+    ensures { ending result registers.new ≡ does Sbw mode registers.old view.now }
 {
     let v: u32 = operand(mode, registers, view)?;
     registers.advance();
@@ -88,8 +81,7 @@ pub(crate) fn sbx<S: Store>(
     registers: &mut Registers,
     view: &View<S>,
 ) -> Result<Option<Pending>, Cause>
-    ensures answers { result ≡ to_write (does Sbx mode (advanced registers.old) view.now.rights view.now.bytes) }
-    ensures registers { registers.new ≡ settled registers.old (does Sbx mode (advanced registers.old) view.now.rights view.now.bytes) }
+    ensures { ending result registers.new ≡ does Sbx mode registers.old view.now }
 {
     let v: u16 = operand(mode, registers, view)?;
     registers.advance();
@@ -102,12 +94,11 @@ pub(crate) fn cp<S: Store>(
     registers: &mut Registers,
     view: &View<S>,
 ) -> Result<Option<Pending>, Cause>
-    ensures answers { result ≡ to_write (does Cp mode (advanced registers.old) view.now.rights view.now.bytes) }
-    ensures registers { registers.new ≡ settled registers.old (does Cp mode (advanced registers.old) view.now.rights view.now.bytes) }
+    ensures { ending result registers.new ≡ does Cp mode registers.old view.now }
 {
     let v: u16 = operand(mode, registers, view)?;
     registers.advance();
-    registers.mark(subtract(registers.a, extend(v)));
+    registers.mark(subtract(registers.a, v));
     Ok(None)
 }
 
@@ -116,8 +107,7 @@ pub(crate) fn cpw<S: Store>(
     registers: &mut Registers,
     view: &View<S>,
 ) -> Result<Option<Pending>, Cause>
-    ensures answers { result ≡ to_write (does Cpw mode (advanced registers.old) view.now.rights view.now.bytes) }
-    ensures registers { registers.new ≡ settled registers.old (does Cpw mode (advanced registers.old) view.now.rights view.now.bytes) }
+    ensures { ending result registers.new ≡ does Cpw mode registers.old view.now }
 {
     let v: u32 = operand(mode, registers, view)?;
     registers.advance();
@@ -130,8 +120,7 @@ pub(crate) fn cpx<S: Store>(
     registers: &mut Registers,
     view: &View<S>,
 ) -> Result<Option<Pending>, Cause>
-    ensures answers { result ≡ to_write (does Cpx mode (advanced registers.old) view.now.rights view.now.bytes) }
-    ensures registers { registers.new ≡ settled registers.old (does Cpx mode (advanced registers.old) view.now.rights view.now.bytes) }
+    ensures { ending result registers.new ≡ does Cpx mode registers.old view.now }
 {
     let v: u16 = operand(mode, registers, view)?;
     registers.advance();

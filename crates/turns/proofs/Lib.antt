@@ -4,4 +4,5 @@ pub mod Split
 pub mod Frame
 pub mod Local
 mod Stopping
-mod Moving
+pub mod Moving
+mod Operands

@@ -8,17 +8,17 @@ use Rattle.machine.specs.Act.{Effect}
 use Rattle.machine.specs.declared.registers.Registers.{Registers}
 use Rattle.turns.specs.Laws.{Split, later, unless}
 use Rattle.turns.specs.Step.{committed, stepped}
-use Rattle.turns.specs.Turn.{Run, run}
+use Rattle.turns.specs.Turn.{Run, run, run_end, stopped_after}
 
 -- by how one step came out
 abbrev from : (Registers → List ℕ → Run) → ℕ → Registers → List ℕ → Result Effect Stop → Run
 from next k r bs (Ok e) = next e.registers (committed bs e.pending)
-from next k r bs (Err t) = record { registers = r; bytes = bs; turned = record { steps = k; stop = Some t } }
+from next k r bs (Err t) = run_end r bs (stopped_after k t)
 
 module _ (reads : ℕ → Reading) (rights : Rights) where
   first : (n k : ℕ) (r : Registers) (bs : List ℕ) (o : Result Effect Stop) → o ≡ stepped reads r (sight rights bs) → run reads rights (suc n) k r bs ≡ from (run reads rights n (k + 1)) k r bs o
-  first n k r bs (Ok e) h = ap (λ o. elim o [ Ok e ↦ run reads rights n (k + 1) e.registers (committed bs e.pending) | Err t ↦ record { registers = r; bytes = bs; turned = record { steps = k; stop = Some t } } ]) (sym h)
-  first n k r bs (Err t) h = ap (λ o. elim o [ Ok e ↦ run reads rights n (k + 1) e.registers (committed bs e.pending) | Err t ↦ record { registers = r; bytes = bs; turned = record { steps = k; stop = Some t } } ]) (sym h)
+  first n k r bs (Ok e) h = ap (λ o. elim o [ Ok e ↦ run reads rights n (k + 1) e.registers (committed bs e.pending) | Err t ↦ run_end r bs (stopped_after k t) ]) (sym h)
+  first n k r bs (Err t) h = ap (λ o. elim o [ Ok e ↦ run reads rights n (k + 1) e.registers (committed bs e.pending) | Err t ↦ run_end r bs (stopped_after k t) ]) (sym h)
 
   count_step : (n j k : ℕ) (r : Registers) (bs : List ℕ) → ((r' : Registers) (bs' : List ℕ) → run reads rights n (j + (k + 1)) r' bs' ≡ later j (run reads rights n (k + 1) r' bs')) → (o : Result Effect Stop) → from (run reads rights n (j + k + 1)) (j + k) r bs o ≡ later j (from (run reads rights n (k + 1)) k r bs o)
   count_step n j k r bs rest (Ok e) = ap (λ m. run reads rights n m e.registers (committed bs e.pending)) (add_assoc j k 1) ∙ rest e.registers (committed bs e.pending)

@@ -1,27 +1,37 @@
 -- The first step of a turn.
-use Rattle.std.proofs.Common.{◌≡◌, ℕ, zero, suc, ◌+◌, ◌<◌, List, Some, Ok, Err, Result, arith}
+use Rattle.std.proofs.Common.{◌≡◌, ℕ, zero, suc, ◌+◌, ◌<◌, List, Ok, Err, Result, ap, ◌∙◌, arith}
 use Rattle.isa.specs.declared.reading.Reading.{Reading}
 use Rattle.access.specs.Access.{sight}
 use Rattle.access.specs.declared.rights.Rights.{Rights}
 use Rattle.access.specs.declared.stop.Stop.{Stop}
 use Rattle.machine.specs.Act.{Effect}
 use Rattle.machine.specs.declared.registers.Registers.{Registers}
-use Rattle.turns.specs.Step.{answer, bytes_after, committed, registers_after, stepped}
-use Rattle.turns.specs.Turn.{Run, run}
+use Rattle.turns.specs.Step.{StepEnd, committed, end_of, step_end, stepped}
+use Rattle.turns.specs.Turn.{Run, met_after, run, run_end, stopped_after}
+use Rattle.turns.specs.declared.turning.Turned.{Turned}
 
 module _ (k : ℕ) (r r' : Registers) (bs bs' : List ℕ) where
-  stop_case : (o : Result Effect Stop) (f : Effect → Run) (t : Stop) → Err t ≡ answer o → r' ≡ registers_after r o → bs' ≡ bytes_after bs o → ◌≡◌ {A = Run} (elim o [ Ok e ↦ f e | Err u ↦ record { registers = r; bytes = bs; turned = record { steps = k; stop = Some u } } ]) (record { registers = r'; bytes = bs'; turned = record { steps = k; stop = Some t } })
-  stop_case (Ok e) f t p q s = let z : ◌≡◌ {A = ℕ} 0 1 = cc in absurd (omega arith)
-  stop_case (Err u) f t p q s = cc
+  stop_case : (o : Result Effect Stop) (f : Effect → Run) (t : Stop) → step_end (Err t) r' bs' ≡ end_of r bs o → elim o [ Ok e ↦ f e | Err u ↦ run_end r bs (stopped_after k u) ] ≡ run_end r' bs' (stopped_after k t)
+  stop_case (Ok e) f t h = let g = ap (λ (w : StepEnd). w.answer) h in cc
+  stop_case (Err u) f t h = let a = ap (λ (w : StepEnd). w.answer) h in let p = ap (λ (w : StepEnd). w.registers) h in let q = ap (λ (w : StepEnd). w.bytes) h in cc
 
-  go_case : (o : Result Effect Stop) (w : Unit {0}) → Ok w ≡ answer o → r' ≡ registers_after r o → bs' ≡ bytes_after bs o → (f : Registers → List ℕ → Run) → (g : Stop → Run) → elim o [ Ok e ↦ f e.registers (committed bs e.pending) | Err u ↦ g u ] ≡ f r' bs'
-  go_case (Ok e) w p q s f g = cc
-  go_case (Err u) w p q s f g = let z : ◌≡◌ {A = ℕ} 0 1 = cc in absurd (omega arith)
+  go_case : (o : Result Effect Stop) (w : Unit {0}) → step_end (Ok w) r' bs' ≡ end_of r bs o → (f : Registers → List ℕ → Run) → (g : Stop → Run) → elim o [ Ok e ↦ f e.registers (committed bs e.pending) | Err u ↦ g u ] ≡ f r' bs'
+  go_case (Ok e) w h f g = let p = ap (λ (w : StepEnd). w.registers) h in let q = ap (λ (w : StepEnd). w.bytes) h in cc
+  go_case (Err u) w h f g = let a = ap (λ (w : StepEnd). w.answer) h in cc
 
 module _ (reads : ℕ → Reading) (rights : Rights) (r r' : Registers) (bs bs' : List ℕ) where
-  pub run_stops : (n k : ℕ) (t : Stop) → 0 < n → Err t ≡ answer (stepped reads r (sight rights bs)) → r' ≡ registers_after r (stepped reads r (sight rights bs)) → bs' ≡ bytes_after bs (stepped reads r (sight rights bs)) → run reads rights n k r bs ≡ record { registers = r'; bytes = bs'; turned = record { steps = k; stop = Some t } }
-  run_stops zero k t h p q s = absurd (omega arith)
-  run_stops (suc n) k t h p q s = stop_case k r r' bs bs' (stepped reads r (sight rights bs)) (λ e. run reads rights n (k + 1) e.registers (committed bs e.pending)) t p q s
+  run_stops : (n k : ℕ) (t : Stop) → 0 < n → step_end (Err t) r' bs' ≡ end_of r bs (stepped reads r (sight rights bs)) → run reads rights n k r bs ≡ run_end r' bs' (stopped_after k t)
+  run_stops zero k t h e = absurd (omega arith)
+  run_stops (suc n) k t h e = stop_case k r r' bs bs' (stepped reads r (sight rights bs)) (λ e. run reads rights n (k + 1) e.registers (committed bs e.pending)) t e
 
-  pub run_goes : (n k : ℕ) (w : Unit {0}) → Ok w ≡ answer (stepped reads r (sight rights bs)) → r' ≡ registers_after r (stepped reads r (sight rights bs)) → bs' ≡ bytes_after bs (stepped reads r (sight rights bs)) → run reads rights (suc n) k r bs ≡ run reads rights n (k + 1) r' bs'
-  run_goes n k w p q s = go_case k r r' bs bs' (stepped reads r (sight rights bs)) w p q s (λ r'' bs''. run reads rights n (k + 1) r'' bs'') (λ u. record { registers = r; bytes = bs; turned = record { steps = k; stop = Some u } })
+  run_goes : (n k : ℕ) (w : Unit {0}) → step_end (Ok w) r' bs' ≡ end_of r bs (stepped reads r (sight rights bs)) → run reads rights (suc n) k r bs ≡ run reads rights n (k + 1) r' bs'
+  run_goes n k w e = go_case k r r' bs bs' (stepped reads r (sight rights bs)) w e (λ r'' bs''. run reads rights n (k + 1) r'' bs'') (λ u. run_end r bs (stopped_after k u))
+
+  -- the same by what goes up from a step
+  pub goes_up : (n k : ℕ) (o : Result (Unit {0}) Stop) (t : Turned) → 0 < n → step_end o r' bs' ≡ end_of r bs (stepped reads r (sight rights bs)) → Err t ≡ met_after k o → run reads rights n k r bs ≡ run_end r' bs' t
+  goes_up n k (Ok w) t l e h = cc
+  goes_up n k (Err u) t l e h = let z : stopped_after k u ≡ t = cc in run_stops n k u l e ∙ ap (run_end r' bs') z
+
+  pub goes_on : (n k : ℕ) (o : Result (Unit {0}) Stop) (w : Unit {0}) → step_end o r' bs' ≡ end_of r bs (stepped reads r (sight rights bs)) → Ok w ≡ met_after k o → run reads rights (suc n) k r bs ≡ run reads rights n (k + 1) r' bs'
+  goes_on n k (Ok v) w e h = run_goes n k v e
+  goes_on n k (Err u) w e h = cc

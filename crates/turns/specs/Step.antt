@@ -7,7 +7,8 @@ use Rattle.isa.specs.declared.format.Format.TheVariants.{A1, A2, A3, A4, A5, L, 
 use Rattle.isa.specs.declared.name.Name.{Name}
 use Rattle.isa.specs.declared.reading.Reading.{Reading}
 use Rattle.isa.specs.declared.reading.Reading.TheVariants.{Undefined, NoPattern, Defined}
-use Rattle.access.specs.Access.{Sight}
+use Rattle.access.specs.Access.{Sight, sight}
+use Rattle.access.specs.declared.rights.Rights.{Rights}
 use Rattle.access.specs.declared.stop.Cause.{Cause}
 use Rattle.access.specs.declared.stop.Cause.TheVariants as cause
 use Rattle.access.specs.declared.stop.Stop.{Stop}
@@ -17,7 +18,7 @@ use Rattle.machine.specs.Plan.{fetch}
 use Rattle.machine.specs.Registers.{advanced}
 use Rattle.machine.specs.Act.{Effect}
 use Rattle.machine.specs.declared.pending.Pending.{Pending}
-use Rattle.machine.specs.declared.pending.Pending.TheVariants.{Byte, Half, Full}
+use Rattle.machine.specs.declared.pending.Pending.TheVariants.{Byte, Halfword, Fullword}
 use Rattle.machine.specs.declared.mode.Mode.{Mode}
 use Rattle.machine.specs.declared.registers.Registers.{Registers}
 
@@ -63,23 +64,27 @@ half_into bs at v = slice_set (slice_set bs at (v / 256)) ((at + 1) % 65536) (v 
 
 abbrev pub into : List ℕ → Pending → List ℕ
 into bs (Byte at v) = slice_set bs at v
-into bs (Half at v) = half_into bs at v
-into bs (Full at v) = half_into (half_into bs at (v / 65536)) ((at + 2) % 65536) (v % 65536)
+into bs (Halfword at v) = half_into bs at v
+into bs (Fullword at v) = half_into (half_into bs at (v / 65536)) ((at + 2) % 65536) (v % 65536)
 
 -- what a step writes
 abbrev pub committed : List ℕ → Option Pending → List ℕ
 committed bs None = bs
 committed bs (Some p) = into bs p
 
--- what a step answers, and what registers and bytes are after it: a stop alters nothing
-abbrev pub answer : Result Effect Stop → Result (Unit {0}) Stop
-answer (Ok e) = Ok tt
-answer (Err t) = Err t
+-- what a step answers, and the registers and bytes after it
+pub record StepEnd : Type 0 where
+  pub answer : Result (Unit {0}) Stop
+  pub registers : Registers
+  pub bytes : List ℕ
 
-abbrev pub registers_after : Registers → Result Effect Stop → Registers
-registers_after r (Ok e) = e.registers
-registers_after r (Err t) = r
+abbrev pub step_end : Result (Unit {0}) Stop → Registers → List ℕ → StepEnd
+step_end a r bs = record { answer = a; registers = r; bytes = bs }
 
-abbrev pub bytes_after : List ℕ → Result Effect Stop → List ℕ
-bytes_after bs (Ok e) = committed bs e.pending
-bytes_after bs (Err t) = bs
+-- a stop alters nothing
+abbrev pub end_of : Registers → List ℕ → Result Effect Stop → StepEnd
+end_of r bs (Ok e) = step_end (Ok tt) e.registers (committed bs e.pending)
+end_of r bs (Err t) = step_end (Err t) r bs
+
+abbrev pub step_of : (ℕ → Reading) → Rights → Registers → List ℕ → StepEnd
+step_of reads rights r bs = end_of r bs (stepped reads r (sight rights bs))

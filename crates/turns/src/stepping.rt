@@ -1,13 +1,12 @@
-ghost use Rattle.access.specs.Access.{sight, sight_of};
+ghost use Rattle.access.specs.Access.{sight_of};
 ghost use Rattle.access.specs.Stops.{told_of};
 ghost use Rattle.book.specs.Readings.{reading};
-ghost use Rattle.machine.specs.Act.{perform, settled, to_write};
-ghost use Rattle.machine.specs.Registers.{advanced};
-ghost use Rattle.turns.specs.Laws.{Local, Only, Unaltered, operand_granted};
-ghost use Rattle.turns.specs.Step.{answer, begun, bytes_after, committed, defined, format_a, half_into, planned, registers_after, stepped, stopped};
+ghost use Rattle.machine.specs.Act.{ending, ending_of, perform, settled};
+ghost use Rattle.turns.specs.Laws.{Local, Only, OperandsByName, Unaltered, operand_granted};
+ghost use Rattle.turns.specs.Step.{begun, committed, defined, format_a, half_into, planned, step_end, step_of, stopped};
 ghost use Rattle.std.specs.Prelude.{◌≡◌};
 
-use access::{Rights, Cause, Place, Reach, Stop, View};
+use access::{Cause, Place, Reach, Rights, Stop, View};
 use book::Book;
 use isa::{Format, Name, Reading};
 use machine::{Mode, Pending, Registers, at_place, execute};
@@ -38,8 +37,7 @@ fn obey_defined<S: Store>(
     registers: &mut Registers,
     view: &View<S>,
 ) -> Result<Option<Pending>, Cause>
-    ensures answers { result ≡ to_write (perform (sight_of view.now) (defined name mode (advanced registers.old))) }
-    ensures registers { registers.new ≡ settled registers.old (perform (sight_of view.now) (defined name mode (advanced registers.old))) }
+    ensures { ending result registers.new ≡ ending_of (defined name mode) registers.old view.now }
 {
     if registers.fm && is_format_a(mode.format) {
         return Err(Cause::Floating);
@@ -54,8 +52,7 @@ fn obey_reading<S: Store>(
     registers: &mut Registers,
     view: &View<S>,
 ) -> Result<Option<Pending>, Cause>
-    ensures answers { result ≡ to_write (perform (sight_of view.now) (begun reading (advanced registers.old))) }
-    ensures registers { registers.new ≡ settled registers.old (perform (sight_of view.now) (begun reading (advanced registers.old))) }
+    ensures { ending result registers.new ≡ ending_of (begun reading) registers.old view.now }
 {
     match reading {
         Reading::NoPattern => Err(Cause::NoPattern),
@@ -79,8 +76,10 @@ fn obey_word<S: Store>(
     registers: &mut Registers,
     view: &View<S>,
 ) -> Result<Option<Pending>, Cause>
-    ensures answers { result ≡ to_write (perform (sight_of view.now) (planned (reading book.now.tables) registers.old)) }
-    ensures registers { registers.new ≡ settled registers.old (perform (sight_of view.now) (planned (reading book.now.tables) registers.old)) }
+    ensures {
+        ending result registers.new
+        ≡ settled registers.old (perform (sight_of view.now) (planned (reading book.now.tables) registers.old))
+    }
 {
     let word = at_place(Place::Fetch, view.fetch(registers.s))?;
     obey_reading(book.reading(word), registers, view)
@@ -104,17 +103,17 @@ fn commit<S: Store>(store: &mut S, pending: Option<Pending>)
     match pending {
         None => {}
         Some(Pending::Byte(at, value)) => store.write(at, value),
-        Some(Pending::Half(at, value)) => write_half(store, at, value),
+        Some(Pending::Halfword(at, value)) => write_half(store, at, value),
         // The halves by a quotient and a remainder: the library parts a fullword into bytes, and the rules write two halfwords.
-        Some(Pending::Full(at, value)) => {
+        Some(Pending::Fullword(at, value)) => {
             write_half(store, at, (value / 65536) as u16);
             write_half(store, at.wrapping_add(2), (value % 65536) as u16);
         }
     }
 }
 
-// The equations of a step, without its laws. Book, registers, store and rights stay four parameters: a hall holds each of them in
-// another place, so that one value of the four would be made for each call, and each clause would name its fields.
+// The equation of a step, without its laws. Book, registers, store and rights stay four parameters: a hall holds each of them in another
+// place, so that one value of the four would be made for each call, and the clause would name its fields.
 #[inline(always)]
 pub(crate) fn obey_next<S: Store>(
     book: &Book,
@@ -122,9 +121,10 @@ pub(crate) fn obey_next<S: Store>(
     store: &mut S,
     reach: &Reach,
 ) -> Result<(), Stop>
-    ensures answers { result ≡ answer (stepped (reading book.now.tables) registers.old (sight reach.now (S.Store.bytes store.old))) }
-    ensures registers { registers.new ≡ registers_after registers.old (stepped (reading book.now.tables) registers.old (sight reach.now (S.Store.bytes store.old))) }
-    ensures bytes { S.Store.bytes store.new ≡ bytes_after (S.Store.bytes store.old) (stepped (reading book.now.tables) registers.old (sight reach.now (S.Store.bytes store.old))) }
+    ensures is {
+        step_end result registers.new (S.Store.bytes store.new)
+        ≡ step_of (reading book.now.tables) reach.now registers.old (S.Store.bytes store.old)
+    }
     ensures footing { S.Store.footing store.new ≡ S.Store.footing store.old }
 {
     let res = obey_word(book, registers, &View::new(store, reach));
@@ -132,21 +132,33 @@ pub(crate) fn obey_next<S: Store>(
     Ok(())
 }
 
-// One step, or the stop that it meets.
+/// One step, or the stop that it meets.
 pub fn step<S: Store>(
     book: &Book,
     registers: &mut Registers,
     store: &mut S,
     rights: &Rights,
 ) -> Result<(), Stop>
-    ensures answers { result ≡ answer (stepped (reading book.now.tables) registers.old (sight rights.now (S.Store.bytes store.old))) }
-    ensures numbers { told_of result ≡ told_of (answer (stepped (reading book.now.tables) registers.old (sight rights.now (S.Store.bytes store.old)))) }
-    ensures registers { registers.new ≡ registers_after registers.old (stepped (reading book.now.tables) registers.old (sight rights.now (S.Store.bytes store.old))) }
-    ensures bytes { S.Store.bytes store.new ≡ bytes_after (S.Store.bytes store.old) (stepped (reading book.now.tables) registers.old (sight rights.now (S.Store.bytes store.old))) }
+    ensures is {
+        step_end result registers.new (S.Store.bytes store.new)
+        ≡ step_of (reading book.now.tables) rights.now registers.old (S.Store.bytes store.old)
+    }
+    ensures numbers {
+        told_of result
+        ≡ told_of (step_of (reading book.now.tables) rights.now registers.old (S.Store.bytes store.old)).answer
+    }
     ensures footing { S.Store.footing store.new ≡ S.Store.footing store.old }
-    ensures stop_alters_nothing { Unaltered result registers.old registers.new (S.Store.bytes store.old) (S.Store.bytes store.new) }
-    ensures writes_its_operand { Only (operand_granted (reading book.now.tables) rights.now registers.old (S.Store.bytes store.old)) (S.Store.bytes store.old) (S.Store.bytes store.new) }
+
+    // The laws of steps.
+    ensures stop_alters_nothing {
+        Unaltered result registers.old registers.new (S.Store.bytes store.old) (S.Store.bytes store.new)
+    }
+    ensures writes_its_operand {
+        let may = operand_granted (reading book.now.tables) rights.now registers.old (S.Store.bytes store.old) in
+        Only may (S.Store.bytes store.old) (S.Store.bytes store.new)
+    }
     ensures reads_granted_bytes { Local }
+    ensures operands_by_name { OperandsByName }
 {
     obey_next(book, registers, store, &Reach::new(rights))
 }

@@ -1,15 +1,15 @@
 ghost use Rattle.book.specs.Readings.{reading};
 ghost use Rattle.turns.specs.Laws.{MovesBytes, MovesHalfwords, Split};
-ghost use Rattle.turns.specs.Turn.{Run, all_spent, run, stopped_after};
+ghost use Rattle.turns.specs.Turn.{all_spent, met_after, run, run_end, stopped_after, turned_by};
 ghost use Rattle.std.specs.Prelude.{◌≡◌};
 
 use crate::stepping::obey_next;
-use access::{Rights, Reach, Stop};
+use access::{Reach, Rights, Stop};
 use book::Book;
 use machine::Registers;
 use store::Store;
 
-// The steps that a turn completed, and the stop that it met; without one its budget is spent.
+/// The steps that a turn completed, and the stop that it met; without one its budget is spent.
 #[derive(Clone, Copy, Debug, PartialEq, Eq)]
 pub struct Turned {
     pub steps: u16,
@@ -36,6 +36,15 @@ impl Turned {
     }
 }
 
+// A stop goes up with the steps before it.
+#[inline(always)]
+fn after_steps<T>(completed: u16, res: Result<T, Stop>) -> Result<T, Turned>
+    ensures { result ≡ met_after completed res }
+{
+    res.map_err(|stop| Turned::stopped(completed, stop))
+}
+
+// Steps up to the budget, or the answer of a turn that meets a stop.
 #[inline(always)]
 fn run_steps<S: Store>(
     book: &Book,
@@ -43,19 +52,25 @@ fn run_steps<S: Store>(
     store: &mut S,
     reach: &Reach,
     budget: u16,
-) -> Turned
-    ensures runs { ◌≡◌ {A = Run} (record { registers = registers.new; bytes = S.Store.bytes store.new; turned = result }) (run (reading book.now.tables) reach.now budget 0 registers.old (S.Store.bytes store.old)) }
+) -> Result<(), Turned>
+    ensures is {
+        run_end registers.new (S.Store.bytes store.new) (turned_by budget result)
+        ≡ run (reading book.now.tables) reach.now budget 0 registers.old (S.Store.bytes store.old)
+    }
     ensures footing { S.Store.footing store.new ≡ S.Store.footing store.old }
 {
     for steps in 0..budget {
-        if let Err(stop) = obey_next(book, registers, store, reach) {
-            return Turned::stopped(steps, stop);
-        }
+        after_steps(steps, obey_next(book, registers, store, reach))?;
     }
-    Turned::spent(budget)
+    Ok(())
 }
 
-// Steps up to the budget, or up to a stop.
+/// Steps up to the budget, or up to a stop.
+#[tactic(auto, using(
+    crate::proofs::Split::split,
+    crate::proofs::Moving::moves_bytes,
+    crate::proofs::Moving::moves_halfwords
+))]
 pub fn turn<S: Store>(
     book: &Book,
     registers: &mut Registers,
@@ -63,11 +78,19 @@ pub fn turn<S: Store>(
     rights: &Rights,
     budget: u16,
 ) -> Turned
-    ensures runs { ◌≡◌ {A = Run} (record { registers = registers.new; bytes = S.Store.bytes store.new; turned = result }) (run (reading book.now.tables) rights.now budget 0 registers.old (S.Store.bytes store.old)) }
+    ensures is {
+        run_end registers.new (S.Store.bytes store.new) result
+        ≡ run (reading book.now.tables) rights.now budget 0 registers.old (S.Store.bytes store.old)
+    }
     ensures footing { S.Store.footing store.new ≡ S.Store.footing store.old }
+
+    // The laws of turns.
     ensures turns_join { Split }
     ensures moves_byte_strings { MovesBytes }
     ensures moves_halfword_strings { MovesHalfwords }
 {
-    run_steps(book, registers, store, &Reach::new(rights), budget)
+    match run_steps(book, registers, store, &Reach::new(rights), budget) {
+        Ok(()) => Turned::spent(budget),
+        Err(turned) => turned,
+    }
 }

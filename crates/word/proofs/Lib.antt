@@ -1,2 +1,2 @@
 mod Cuts
-mod Exact
+pub mod Exact

@@ -2,10 +2,9 @@ use Rattle.std.proofs.Common.{◌≡◌, Ok, Err, Result, refl, sym, ap, ◌∙�
 use Rattle.access.specs.Access.{Viewed, sight, sight_of}
 use Rattle.access.specs.declared.stop.Cause.{Cause}
 use Rattle.book.specs.Readings.{reading}
-use Rattle.machine.specs.Act.{perform, settled, to_write}
-use Rattle.machine.specs.Act.{Effect}
-use Rattle.turns.specs.Step.{planned, stopped}
-use Rattle.turns.proofs.Settling.{as_it_was, went_answers, went_bytes, met_answers, met_bytes, registers_settle}
+use Rattle.machine.specs.Act.{Effect, ending, perform, settled}
+use Rattle.turns.specs.Step.{planned, step_end, stopped}
+use Rattle.turns.proofs.Settling.{met, went}
 use Rattle.turns.proofs.stepping.obey_next.Goals as goal
 
 pub returns : goal.returns
@@ -15,14 +14,9 @@ returns g c =
     let bs = g.S.Store.bytes c.args.store.now in
     let r' = c.obey_word-res.new.registers in
     let q : Result Effect Cause = perform (sight c.args.reach.now bs) (planned reads r) in
-    let seen : c.obey_word-res.result ≡ to_write q = c.obey_word-res.ensures.answers ∙ ap (λ (v : Viewed). to_write (perform (sight_of v) (planned reads r))) c.new.ensures in
-    let kept : r' ≡ settled r q = c.obey_word-res.ensures.registers ∙ ap (λ (v : Viewed). settled r (perform (sight_of v) (planned reads r))) c.new.ensures in
-    let p = c.in_ok-at_address.field-0 in
-    let ok : Ok p ≡ stopped r.s (to_write q) = sym c.in_ok-at_address.was ∙ c.at_address.ensures ∙ ap (stopped r'.s) seen ∙ as_it_was r.s r r' bs q kept in
+    let done : ending c.obey_word-res.result r' ≡ settled r q = c.obey_word-res.ensures ∙ ap (λ (v : Viewed). settled r (perform (sight_of v) (planned reads r))) c.new.ensures in
     record {
-      answers = went_answers r.s r r' bs q p ok;
-      registers = registers_settle r.s r r' bs q kept;
-      bytes = went_bytes r.s r r' bs q p (g.S.Store.bytes c.commit.new.store) ok c.commit.ensures.bytes;
+      is = went r r' bs c.obey_word-res.result q c.in_ok-at_address.field-0 _ done (sym c.in_ok-at_address.was ∙ c.at_address.ensures) c.commit.ensures.bytes;
       footing = c.commit.ensures.footing;
     }
 
@@ -33,14 +27,10 @@ returns-in_err-at_address g c =
     let bs = g.S.Store.bytes c.args.store.now in
     let r' = c.obey_word-res.new.registers in
     let q : Result Effect Cause = perform (sight c.args.reach.now bs) (planned reads r) in
-    let seen : c.obey_word-res.result ≡ to_write q = c.obey_word-res.ensures.answers ∙ ap (λ (v : Viewed). to_write (perform (sight_of v) (planned reads r))) c.new.ensures in
-    let kept : r' ≡ settled r q = c.obey_word-res.ensures.registers ∙ ap (λ (v : Viewed). settled r (perform (sight_of v) (planned reads r))) c.new.ensures in
+    let done : ending c.obey_word-res.result r' ≡ settled r q = c.obey_word-res.ensures ∙ ap (λ (v : Viewed). settled r (perform (sight_of v) (planned reads r))) c.new.ensures in
     let t = c.in_err-at_address.field-0.0 in
-    let met : Err t ≡ stopped r.s (to_write q) = sym c.in_err-at_address.was ∙ c.at_address.ensures ∙ ap (stopped r'.s) seen ∙ as_it_was r.s r r' bs q kept in
     let up : c.from_residual.result ≡ Err t = search rules in
     record {
-      answers = up ∙ met_answers r.s r r' bs q t met;
-      registers = registers_settle r.s r r' bs q kept;
-      bytes = met_bytes r.s r r' bs q t met;
+      is = ap (λ a. step_end a r' bs) up ∙ met r r' bs c.obey_word-res.result q t done (sym c.in_err-at_address.was ∙ c.at_address.ensures);
       footing = refl;
     }

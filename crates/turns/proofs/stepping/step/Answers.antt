@@ -1,13 +1,13 @@
 use Rattle.std.proofs.Common.{sym, ap, subst, ◌∙◌}
-use Rattle.book.specs.Readings.{reading}
-use Rattle.access.specs.Access.{sight}
 use Rattle.access.specs.Stops.{told_of}
 use Rattle.access.specs.declared.rights.Rights.{Rights}
+use Rattle.book.specs.Readings.{reading}
+use Rattle.turns.specs.Laws.{Only, operand_granted}
+use Rattle.turns.specs.Step.{StepEnd, step_of}
 use Rattle.turns.proofs.Frame.{step_writes}
 use Rattle.turns.proofs.Local.{local}
+use Rattle.turns.proofs.Operands.{operands_by_name}
 use Rattle.turns.proofs.Stopping.{unaltered}
-use Rattle.turns.specs.Laws.{Only, operand_granted}
-use Rattle.turns.specs.Step.{answer, bytes_after, registers_after, stepped}
 use Rattle.turns.proofs.stepping.step.Goals as goal
 
 pub returns : goal.returns
@@ -16,18 +16,13 @@ returns g c =
     let rights = c.args.rights.now in
     let r = c.args.registers.now in
     let bs = g.S.Store.bytes c.args.store.now in
-    let e = c.obey_next.ensures in
-    let asked = ap (λ (b : Rights). stepped reads r (sight b bs)) c.new.ensures in
-    let answers = e.answers ∙ ap answer asked in
-    let registers = e.registers ∙ ap (registers_after r) asked in
-    let bytes = e.bytes ∙ ap (bytes_after bs) asked in
+    let is = c.obey_next.ensures.is ∙ ap (λ (a : Rights). step_of reads a r bs) c.new.ensures in
     record {
-      answers = answers;
-      numbers = ap told_of answers;
-      registers = registers;
-      bytes = bytes;
-      footing = e.footing;
-      stop_alters_nothing = unaltered _ _ _ _ _ _ answers registers bytes;
-      writes_its_operand = subst (Only (operand_granted reads rights r bs) bs) (sym bytes) (step_writes reads rights bs r);
+      is = is;
+      numbers = ap (λ (e : StepEnd). told_of e.answer) is;
+      footing = c.obey_next.ensures.footing;
+      stop_alters_nothing = unaltered _ _ _ _ _ _ is;
+      writes_its_operand = subst (Only (operand_granted reads rights r bs) bs) (sym (ap (λ (e : StepEnd). e.bytes) is)) (step_writes reads rights bs r);
       reads_granted_bytes = local;
+      operands_by_name = operands_by_name;
     }
