@@ -3,7 +3,7 @@ ghost use Rattle.book.specs.Columns.{line_fields, field_texts};
 
 use text::cut;
 
-// The three fields of a line.
+/// The three fields of a line.
 #[derive(Clone, Copy, Debug, PartialEq, Eq)]
 pub struct Fields<'a> {
     pub letter: &'a [u8],
@@ -11,7 +11,7 @@ pub struct Fields<'a> {
     pub value: &'a [u8],
 }
 
-// A line has just three fields, none of them empty, and every tab parts two fields.
+/// A line has just three fields, none of them empty, and every tab parts two fields.
 #[tactic(auto, using(crate::proofs::Columns::by_cuts))]
 pub fn fields_by_tab(line: &[u8]) -> Option<Fields<'_>>
     ensures { field_texts result ≡ line_fields line.now }

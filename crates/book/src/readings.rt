@@ -7,7 +7,7 @@ use crate::tables::Tables;
 use isa::Reading;
 use std::alloc::{AllocError, Global};
 
-// The reading of each word, so that a step looks it up.
+/// The reading of each word, so that a step looks it up.
 #[derive(Drop)]
 pub struct Readings {
     held: Vec<Reading>,

@@ -16,7 +16,7 @@ fn has(table: &[Option<Name>], name: Name) -> bool
     table.iter().any(|entry| is_entry(entry, name))
 }
 
-// The place of the name in the table.
+/// The place of the name in the table.
 pub fn place_of(table: &[Option<Name>], name: Name) -> Option<usize>
     ensures is { result ≡ position (is_name name) table.now }
     ensures within { IfSome result (λ k. k < length table.now) }
@@ -24,7 +24,7 @@ pub fn place_of(table: &[Option<Name>], name: Name) -> Option<usize>
     table.iter().position(|entry| is_entry(entry, name))
 }
 
-// Enters the name at its number, if both are free. A number that was read becomes a place by `as`: the library has no `From` for the two.
+/// Enters the name at its number, if both are free. A number that was read becomes a place by `as`: the library has no `From` for the two.
 pub fn enter(table: &mut [Option<Name>], name: Name, number: u32) -> Result<(), Fault>
     requires { number < length table.old }
     ensures { (result, table.new) ≡ entered table.old name number }

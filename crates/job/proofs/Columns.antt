@@ -1,8 +1,6 @@
 -- The fields of a line, by its first tab.
-use Rattle.std.proofs.Common.{◌≡◌, ℕ, suc, ◌+◌, Bool, true, false, cond, ltb, eqb, List, [], ◌∷◌, ◌++◌, length, take, drop, Some, None, Ok, Err, Option, refl, sym, ap, ◌∙◌, append_assoc, append-nil, arith}
+use Rattle.std.proofs.Common.{◌≡◌, [], Some, None, Ok, Err, Option, refl, sym, ap, ◌∙◌}
 use Rattle.std.specs.Borrow.{Bor}
-use Rattle.std.proofs.lemmas.Bool.{lt-ltb}
-use Rattle.std.proofs.lemmas.Bool.Decides.{nat_tests}
 use Rattle.text.specs.Search.{Bytes, cut_at, pair}
 use Rattle.text.proofs.Parts.{by_cut, parts-cut}
 use Rattle.job.specs.declared.fault.Fault.TheVariants as fault

@@ -15,7 +15,6 @@ use Rattle.job.specs.declared.area.Area.{Area}
 use Rattle.job.specs.declared.entry.Entry.{Entry}
 use Rattle.job.specs.declared.fault.Fault.{Fault}
 use Rattle.job.specs.declared.fault.Fault.TheVariants as fault
-use Rattle.job.specs.declared.fields.Fields.{Fields}
 use Rattle.job.specs.declared.job.Turns.{Turns}
 use Rattle.job.specs.Entries.{entry_read}
 
@@ -32,13 +31,14 @@ infixl 10 ◌>>=◌
 abbrev pub ◌>>=◌ : {X Y : Type 0} → Reader X → (X → Reader Y) → Reader Y
 r >>= f = λ fs. results.◌>>=◌ (r fs) (λ p. f p.0 p.1)
 
--- an answer that needs no field
+-- a value that needs no field
 abbrev pub give : {X : Type 0} → X → Reader X
 give x fs = Ok (x, fs)
 
-abbrev pub just : {X : Type 0} → Result X Fault → Reader X
-just (Err e) fs = Err e
-just (Ok x) fs = Ok (x, fs)
+-- an answer, with the fields that are left
+abbrev pub answer : {X : Type 0} → Result X Fault → Reader X
+answer (Err e) fs = Err e
+answer (Ok x) fs = Ok (x, fs)
 
 abbrev pub a_field : Reader Bytes
 a_field [] = Err fault.Fields
@@ -48,12 +48,12 @@ a_field (s ∷ fs) = Ok (s, fs)
 abbrev pub an_entry : Reader Entry
 an_entry = do
   name ← a_field
-  just (entry_read name)
+  answer (entry_read name)
 
 abbrev pub a_number : ℕ → ℕ → Reader ℕ
 a_number low high = do
   digits ← a_field
-  just (ok_or (number_of low high digits) fault.Number)
+  answer (ok_or (number_of low high digits) fault.Number)
 
 abbrev pub a_half : Reader ℕ
 a_half = a_number 0 65535
@@ -67,7 +67,7 @@ a_bay = a_number 1 8
 abbrev pub a_kind : Reader Kind
 a_kind = do
   word ← a_field
-  just (ok_or (kind_of word) fault.Kind)
+  answer (ok_or (kind_of word) fault.Kind)
 
 abbrev pub a_grant : Reader Grant
 a_grant = do
@@ -104,7 +104,7 @@ abbrev pub an_area : Reader Area
 an_area = do
   address ← a_half
   halfwords ← a_half
-  just (area_of address halfwords)
+  answer (area_of address halfwords)
 
 abbrev pub some_turns : Reader Turns
 some_turns = do
@@ -119,22 +119,19 @@ name_of s = if is_utf8 s && not (empty s) then Ok s else Err fault.Text
 abbrev pub a_file : Reader Bytes
 a_file = do
   name ← a_field
-  just (name_of name)
+  answer (name_of name)
 
 -- no field is left
 abbrev pub ended : List Bytes → Result (Unit {0}) Fault
 ended [] = Ok tt
 ended (s ∷ fs) = Err fault.Fields
 
--- what is left of a line that is read
+-- the fields of what is left of a line
 abbrev pub fields_in : Option (Bor Bytes) → List Bytes
 fields_in None = []
 fields_in (Some r) = fields r.now
 
-abbrev pub fields_left : Fields → List Bytes
-fields_left f = fields_in f.rest
-
--- what was read, as view shows it, and the fields that are left, or the fault
-abbrev pub with_rest : {X Y : Type 0} → (X → Y) → Result X Fault → List Bytes → Result (Y × List Bytes) Fault
-with_rest view (Err e) fs = Err e
-with_rest view (Ok x) fs = Ok (view x, fs)
+-- the bytes that were read
+abbrev pub shown_bytes : Result (Bor Bytes) Fault → Result Bytes Fault
+shown_bytes (Err e) = Err e
+shown_bytes (Ok r) = Ok r.now

@@ -1,19 +1,21 @@
 -- What the lines of a job say, one after the other.
-use Rattle.std.specs.Prelude.{ℕ, not, List, [], ◌∷◌, replicate, Some, None, Ok, Err, Option, Result, ◌==◌, nat_lt, if◌then◌else◌}
+use Rattle.std.specs.Prelude.{ℕ, List, [], ◌∷◌, replicate, Some, None, Ok, Err, Option, Result, ◌==◌, slice_set, if◌then◌else◌}
 use Rattle.std.specs.Borrow.{Bor}
 use Rattle.text.specs.Search.{Bytes}
 use Rattle.text.specs.Results as results
 use Rattle.access.specs.declared.rights.Grant.{Grant}
-use Rattle.bays.specs.Grants.{room, clashes_any, added}
+use Rattle.bays.specs.Grants.{checked, clashes_any}
+use Rattle.bays.specs.declared.refusal.Refusal.{Refusal}
+use Rattle.job.specs.Faults.{grant_fault}
 use Rattle.machine.specs.declared.registers.Registers.{Registers}
 use Rattle.job.specs.declared.area.Area.{Area}
 use Rattle.job.specs.declared.draft.Draft.{Draft}
 use Rattle.job.specs.declared.entry.Entry.{Entry}
 use Rattle.job.specs.declared.entry.Entry.TheVariants as entry
 use Rattle.job.specs.declared.fault.Fault.{Fault}
-use Rattle.job.specs.declared.fault.Fault.TheVariants.{Repeated, Reversed, SeventhGrant, Clash}
+use Rattle.job.specs.declared.fault.Fault.TheVariants.{Repeated}
 use Rattle.job.specs.declared.job.Turns.{Turns}
-use Rattle.job.specs.Fields.{fields, Reader, ◌>>=◌, give, just, an_entry, a_bay, a_grant, some_registers, an_area, some_turns, a_file, ended}
+use Rattle.job.specs.Fields.{fields, Reader, ◌>>=◌, give, answer, an_entry, a_bay, a_grant, some_registers, an_area, some_turns, a_file, ended}
 
 -- what the lines so far say
 pub record SoFar : Type 0 where
@@ -46,15 +48,15 @@ first_time e (Some y) x = Err (Repeated e)
 abbrev pub once : {X : Type 0} → Entry → Option X → Reader X → Reader (Option X)
 once e slot r = do
   x ← r
-  just (first_time e slot x)
+  answer (first_time e slot x)
 
--- one grant more, refused in the order in which a hall refuses
+abbrev pub with_place : List (Option Grant) → Grant → Result ℕ Refusal → Result (List (Option Grant)) Fault
+with_place gs g (Ok k) = Ok (slice_set gs k (Some g))
+with_place gs g (Err r) = Err (grant_fault r)
+
+-- one grant more, by the check of a hall
 abbrev pub granted : List (Option Grant) → Grant → Result (List (Option Grant)) Fault
-granted gs g =
-    if nat_lt g.last g.first then Err Reversed
-    else if not (room gs) then Err SeventhGrant
-    else if clashes_any g gs then Err Clash
-    else Ok (added g gs)
+granted gs g = with_place gs g (checked g gs (clashes_any g gs))
 
 -- what the values of an entry add
 abbrev pub entered : SoFar → Entry → Reader SoFar
@@ -63,7 +65,7 @@ entered d entry.Bay = do
   give (record d { number = number })
 entered d entry.Grant = do
   grant ← a_grant
-  grants ← just (granted d.grants grant)
+  grants ← answer (granted d.grants grant)
   give (record d { grants = grants })
 entered d entry.Registers = do
   registers ← once entry.Registers d.registers some_registers

@@ -35,8 +35,8 @@ abbrev pub there : {X : Type 0} → Entry → Option X → Result X Fault
 there e o = ok_or o (Missing e)
 
 -- records can be put in, and results can be taken
-abbrev pub reached : Says → Result Says Fault
-reached j =
+abbrev pub if_reached : Says → Result Says Fault
+if_reached j =
     if not (within j.rights Load j.input.address (2 * j.input.halfwords)) then Err (Denied entry.Input)
     else if not (within j.rights Copy j.output.address (2 * j.output.halfwords)) then Err (Denied entry.Output)
     else Ok j
@@ -51,7 +51,7 @@ finished d = do
   turns ← there entry.Turns d.turns
   records ← there entry.Records d.records
   results ← there entry.Results d.results
-  reached (record {
+  if_reached (record {
     number = number;
     rights = rights_of d.grants;
     registers = registers;

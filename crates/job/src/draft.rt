@@ -1,5 +1,5 @@
 ghost use Rattle.std.specs.Prelude.{◌≡◌};
-ghost use Rattle.job.specs.Fields.{fields, fields_left, with_rest};
+ghost use Rattle.job.specs.Fields.{answer, fields};
 ghost use Rattle.job.specs.Lines.{by_fields, entered, first_time, granted, line_rule, so_far, SoFar};
 ghost use Rattle.job.specs.Text.{finished, shown_job};
 ghost use Rattle.job.specs.declared.fault.Fault.TheVariants.{Unended};
@@ -11,11 +11,11 @@ use crate::fault::Fault;
 use crate::fields::Fields;
 use crate::job::{Job, Turns};
 use access::{Grant, Rights, Use};
-use bays::{clash_with_any, first_vacant};
+use bays::{check_grant, clash_with_any};
 use machine::Registers;
 use text::TakeLine;
 
-// A job as far as it has been read.
+/// A job as far as it has been read.
 #[derive(Default, Drop)]
 pub struct Draft<'a> {
     number: Option<u8>,
@@ -38,17 +38,12 @@ fn once<T: Drop>(slot: &mut Option<T>, entry: Entry, value: T) -> Result<(), Fau
     }
 }
 
-// One grant more, or a refusal, in the order in which a hall refuses.
+// One grant more, or the refusal of a hall that is asked for it.
 fn add_grant(grants: &mut [Option<Grant>; 6], grant: Grant) -> Result<(), Fault>
     ensures { outcome result grants.new ≡ granted grants.old grant }
 {
-    if grant.last < grant.first {
-        return Err(Fault::Reversed);
-    }
-    let place = first_vacant(grants).ok_or(Fault::SeventhGrant)?;
-    if clash_with_any(grant, grants) {
-        return Err(Fault::Clash);
-    }
+    let clashes = clash_with_any(grant, grants);
+    let place = check_grant(grant, grants, clashes)?;
     grants[place] = Some(grant);
     Ok(())
 }
@@ -56,8 +51,8 @@ fn add_grant(grants: &mut [Option<Grant>; 6], grant: Grant) -> Result<(), Fault>
 impl<'a> Draft<'a> {
     // Takes up the values of an entry.
     fn take_entry(&mut self, entry: Entry, fields: &mut Fields<'a>) -> Result<(), Fault>
-        ensures { with_rest (λ _. so_far self.new) result (fields_left fields.new)
-            ≡ entered (so_far self.old) entry (fields_left fields.old) }
+        ensures { answer (outcome result (so_far self.new)) fields.new
+            ≡ entered (so_far self.old) entry fields.old }
     {
         match entry {
             Entry::Bay => once(&mut self.number, entry, fields.bay()?),
@@ -72,7 +67,8 @@ impl<'a> Draft<'a> {
     }
 
     fn take_fields(&mut self, line: &'a [u8]) -> Result<(), Fault>
-        ensures { outcome result (so_far self.new) ≡ by_fields (so_far self.old) (fields line.now) }
+        ensures { outcome result (so_far self.new)
+            ≡ by_fields (so_far self.old) (fields line.now) }
     {
         let mut fields = Fields::new(line);
         let entry = Entry::try_from(fields.next_field()?)?;
@@ -80,7 +76,7 @@ impl<'a> Draft<'a> {
         fields.end()
     }
 
-    // The whole job: each entry is there, records can be put in, and results can be taken.
+    /// The whole job: each entry is there, records can be put in, and results can be taken.
     #[tactic(auto, unfolding(crate::specs::Text::finished))]
     pub fn finish(self) -> Result<Job<'a>, Fault>
         ensures { shown_job result ≡ finished (so_far self.entry) }
@@ -141,7 +137,9 @@ impl<'a> TakeLine<'a> for Draft<'a> {
         }
     }
 
-    fn unended() -> Fault {
+    fn unended() -> Fault
+        ensures { result ≡ Unended }
+    {
         Fault::Unended
     }
 }

@@ -1,8 +1,10 @@
 ghost use Rattle.std.specs.Prelude.{◌≡◌};
+ghost use Rattle.job.specs.Faults.{grant_fault};
 ghost use Rattle.job.specs.declared.fault.Fault.TheVariants.{Kind as OfKind};
 
 use crate::entry::Entry;
 use access::UnknownKind;
+use bays::Refusal;
 use text::AtLine;
 use thiserror::Error;
 
@@ -45,5 +47,18 @@ impl From<UnknownKind> for Fault {
 
     fn from(_kind: UnknownKind) -> Fault {
         Fault::Kind
+    }
+}
+
+// A grant is refused for one of three reasons.
+impl From<Refusal> for Fault {
+    ghost from_gives = { λ refusal fault. fault ≡ grant_fault refusal };
+
+    fn from(refusal: Refusal) -> Fault {
+        match refusal {
+            Refusal::Reversed => Fault::Reversed,
+            Refusal::Full => Fault::SeventhGrant,
+            _ => Fault::Clash,
+        }
     }
 }

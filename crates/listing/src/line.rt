@@ -50,7 +50,7 @@ fn content<'a>(book: &Book, kind: &[u8], rest: &'a [u8]) -> Result<Content<'a>, 
     }
 }
 
-// What a line says, if it says anything.
+/// What a line says, if it says anything.
 pub fn read_line<'a>(book: &Book, line: &'a [u8]) -> Result<Option<Entry<'a>>, Fault>
     ensures { shown_entry result ≡ line_rule book.now.tables (words (uncommented line.now)) }
 {

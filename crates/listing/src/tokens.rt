@@ -12,7 +12,7 @@ fn word_start(s: &[u8]) -> Option<usize>
     s.iter().position(|x| *x != b' ')
 }
 
-// The first word, and what follows it.
+/// The first word, and what follows it.
 pub fn next_word(s: &[u8]) -> Option<(&[u8], &[u8])>
     ensures { words_of_pair result ≡ words s.now }
 {
@@ -20,14 +20,14 @@ pub fn next_word(s: &[u8]) -> Option<(&[u8], &[u8])>
     Some(cut(t, b' ').unwrap_or((t, &[])))
 }
 
-// What stands before the comment.
+/// What stands before the comment.
 pub fn before_comment(line: &[u8]) -> &[u8]
     ensures { result.now ≡ uncommented line.now }
 {
     cut(line, b'#').map_or(line, |(said, _)| said)
 }
 
-// The only word.
+/// The only word.
 pub fn one_word(s: &[u8]) -> Option<&[u8]>
     ensures { word_bytes result ≡ only_word (words s.now) }
 {
@@ -35,7 +35,7 @@ pub fn one_word(s: &[u8]) -> Option<&[u8]>
     next_word(rest).is_none().then_some(word)
 }
 
-// The words, if there are just three.
+/// The words, if there are just three.
 pub fn three_words(s: &[u8]) -> Option<(&[u8], &[u8], &[u8])>
     ensures { triple_bytes result ≡ spec.three_words (words s.now) }
 {
