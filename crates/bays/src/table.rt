@@ -1,13 +1,12 @@
-ghost use Rattle.bays.specs.Bays.{bay_at, clash, free, numbered, put_bay};
-ghost use Rattle.std.specs.Prelude.{◌≡◌, length, replicate};
+ghost use Rattle.bays.specs.Bays.{bay_at, clash, free};
+ghost use Rattle.std.specs.Prelude.{◌≡◌, ◌+◌, ◌<◌, length, replicate, slice_index_or, IfOk, IfSome};
 
-use crate::grants::clash_with_any;
 use crate::bay::Bay;
 use crate::refusal::Refusal;
 use crate::stage::Stage;
 use access::Grant;
 
-// The bays 1 to 8.
+/// The bays 1 to 8. The bay of a number stands at a place, one less.
 #[derive(Drop)]
 pub struct Table {
     pub bays: [Bay; 8],
@@ -15,7 +14,7 @@ pub struct Table {
 }
 
 impl Table {
-    // Eight free bays.
+    /// Eight free bays.
     pub fn new() -> Table
         ensures { result.bays ≡ replicate 8 free }
     {
@@ -24,46 +23,35 @@ impl Table {
         }
     }
 
-    // The bay of a number.
-    pub fn get(&self, number: u8) -> Option<Bay>
-        ensures { result ≡ numbered self.now.bays number }
+    /// The place of a number, if a bay has it.
+    pub fn place_of(&self, number: u8) -> Option<usize>
+        ensures is { result ≡ Rattle.bays.specs.Bays.place_of number }
+        ensures within { IfSome result (λ p. p < length self.now.bays) }
+        ensures named { IfSome result (λ p. p + 1 ≡ number) }
     {
-        let index = usize::from(number).checked_sub(1)?;
-        self.bays.get(index).copied()
+        (1..=8).contains(&number).then(|| usize::from(number) - 1)
     }
 
-    // The same, or a free bay where no bay has the number.
-    #[tactic(auto, using(crate::proofs::Lists::bay_or_free))]
-    pub fn bay(&self, number: u8) -> Bay
-        ensures { result ≡ bay_at self.now.bays number }
+    /// The place of a bay that is at the stage that a call wants.
+    pub fn entered(&self, number: u8, wanted: Stage) -> Result<usize, Refusal>
+        ensures is { result ≡ Rattle.bays.specs.Bays.entered wanted self.now.bays number }
+        ensures within { IfOk result (λ p. p < length self.now.bays) }
+        ensures named { IfOk result (λ p. p + 1 ≡ number) }
     {
-        self.get(number).unwrap_or(Bay::free())
-    }
-
-    // The bay of a number, at the stage that a call wants.
-    pub fn entered(&self, number: u8, wanted: Stage) -> Result<Bay, Refusal>
-        ensures { result ≡ Rattle.bays.specs.Bays.entered wanted self.now.bays number }
-    {
-        Some(self.bay(number))
-            .filter(|record| record.stage == Some(wanted))
-            .ok_or(Refusal::OtherStage)
-    }
-
-    // Nothing is put where no bay has the number.
-    pub fn put(&mut self, number: u8, kept: Bay)
-        ensures { self.new.bays ≡ put_bay self.old.bays number kept }
-    {
-        if (1..=8).contains(&number) {
-            self.bays[usize::from(number) - 1] = kept;
+        let Some(place) = self.place_of(number) else {
+            return Err(Refusal::OtherStage);
+        };
+        if self.bays[place].is_at(wanted) {
+            Ok(place)
+        } else {
+            Err(Refusal::OtherStage)
         }
     }
 
-    // Whether a grant shares a byte with one of any bay, unless both are read grants.
+    /// Whether a grant clashes with a range of any bay.
     pub fn clashes(&self, grant: Grant) -> bool
         ensures { result ≡ clash grant self.now.bays }
     {
-        self.bays
-            .iter()
-            .any(|record| clash_with_any(grant, &record.rights.grants))
+        self.bays.iter().any(|bay| bay.clashes(grant))
     }
 }
