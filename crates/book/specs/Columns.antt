@@ -10,7 +10,9 @@ pub record FieldTexts : Type 0 where
 
 -- just three fields, none of them empty
 abbrev pub three_fields : List Bytes → Option FieldTexts
-three_fields (a ∷ b ∷ c ∷ []) = if empty a || (empty b || empty c) then None else Some (record { letter = a; name = b; value = c })
+three_fields (a ∷ b ∷ c ∷ []) =
+    if empty a || (empty b || empty c) then None
+    else Some (record { letter = a; name = b; value = c })
 three_fields _ = None
 
 -- the fields of a line, which tabs part

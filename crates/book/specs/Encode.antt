@@ -107,6 +107,6 @@ encoding t n A5 m d = encode_a t n A5 m d
 encoding t n L m d = encode_l (word_of n) t n m d
 encoding t n B m d = encode_b t n m d
 
--- the word of a name, a format, M and D: unavailable if the book has none, and else unfit if M or D does not fit
+-- the word of a name, a format, M and D: unavailable if the book has none, else unfit if M or D is
 unfoldable pub encode : Tables → Name → Format → ℤ → ℤ → Result ℕ EncodeError
 encode t n f m d = encoding t n f m d

@@ -22,7 +22,8 @@ IsLayout t w (Defined n f m d) = Lays t w n f m d
 
 -- no layout of the word is any but this reading
 abbrev pub IsSoleLayout : Tables → ℕ → Reading → Type 0
-IsSoleLayout t w r = (n : Name) (f : Format) (m : ℕ) (d : ℤ) → Lays t w n f m d → r ≡ Defined n f m d
+IsSoleLayout t w r =
+    (n : Name) (f : Format) (m : ℕ) (d : ℤ) → Lays t w n f m d → r ≡ Defined n f m d
 
 -- a defined reading, encoded, gives the word again
 abbrev pub EncodesBack : Tables → ℕ → Reading → Type 0

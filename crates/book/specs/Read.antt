@@ -22,19 +22,27 @@ abbrev pub finished : Tables → Result Tables Fault
 finished t = if every t.patterns then Ok t else Err Missing
 
 abbrev pub no_tables : Tables
-no_tables = record { a = replicate 64 None; l = replicate 64 None; b = replicate 4 None; patterns = replicate 5 None }
+no_tables = record {
+  a = replicate 64 None;
+  l = replicate 64 None;
+  b = replicate 4 None;
+  patterns = replicate 5 None;
+}
 
--- the tables that a text has, which is read into empty ones line by line, or the first refusal with its line
+-- the tables that a text has, read into empty ones line by line, or the first refusal with its line
 unfoldable pub tables_of : Bytes → Result Tables (AtLine Fault)
 tables_of s = do
   p ← lines_taken line_rule Fields no_tables s
   at_line p.1 (finished p.0)
 
 -- the answer of a book that reads a text, and its tables after it
-abbrev pub after_reading : Tables → Result Tables (AtLine Fault) → Result (Unit {0}) (AtLine Fault) × Tables
+abbrev pub after_reading : Tables → Result Tables (AtLine Fault)
+    → Result (Unit {0}) (AtLine Fault) × Tables
 after_reading old (Ok t) = (Ok tt, t)
 after_reading old (Err e) = (Err e, old)
 
 -- A1 10, A2 0, A3 1110, A4 110, A5 1111, and no instruction
 abbrev pub new_tables : Tables
-new_tables = record no_tables { patterns = Some 0b10 ∷ Some 0 ∷ Some 0b1110 ∷ Some 0b110 ∷ Some 0b1111 ∷ [] }
+new_tables = record no_tables {
+  patterns = Some 0b10 ∷ Some 0 ∷ Some 0b1110 ∷ Some 0b110 ∷ Some 0b1111 ∷ [];
+}

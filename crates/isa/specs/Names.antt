@@ -69,12 +69,14 @@ spelled Sim = codes "SIM"
 spelled Sfm = codes "SFM"
 spelled Bitl = codes "BITL"
 
--- the place of a name among all names, in the order in which the enum has them, which tells names apart
+-- the place of a name among all names, in the order of the enum, which tells names apart
 abbrev pub rank : Name → ℕ
 rank n = tag_of the_type n
 
 abbrev pub names_a : List Name
-names_a = Ldb ∷ Ld ∷ Ldw ∷ Ldx ∷ Stb ∷ St ∷ Stw ∷ Stx ∷ Ad ∷ Adw ∷ Sb ∷ Sbw ∷ Adx ∷ Sbx ∷ Cp ∷ Cpw ∷ Cpx ∷ Nw ∷ Nx ∷ Mx ∷ Dx ∷ Ldy ∷ Sty ∷ Ady ∷ Sby ∷ Ldz ∷ Stz ∷ Adz ∷ Sbz ∷ Bi ∷ Bli ∷ []
+names_a =
+    Ldb ∷ Ld ∷ Ldw ∷ Ldx ∷ Stb ∷ St ∷ Stw ∷ Stx ∷ Ad ∷ Adw ∷ Sb ∷ Sbw ∷ Adx ∷ Sbx ∷ Cp ∷ Cpw ∷ Cpx
+    ∷ Nw ∷ Nx ∷ Mx ∷ Dx ∷ Ldy ∷ Sty ∷ Ady ∷ Sby ∷ Ldz ∷ Stz ∷ Adz ∷ Sbz ∷ Bi ∷ Bli ∷ []
 
 abbrev pub names_l : List Name
 names_l = Ldl ∷ Adl ∷ Sbl ∷ Cpl ∷ Nl ∷ Ml ∷ Bitx ∷ Bz ∷ Bnz ∷ Bn ∷ Bnn ∷ Bca ∷ Bof ∷ []
@@ -102,7 +104,9 @@ fixed_name_of s = first spelled fixed_names s
 
 -- the name that is spelled so, of all
 abbrev pub name_of : List ℕ → Option Name
-name_of s = option_or (option_or (option_or (name_under letter.A s) (name_under letter.L s)) (name_under letter.B s)) (fixed_name_of s)
+name_of s =
+    option_or (option_or (option_or (name_under letter.A s) (name_under letter.L s)) (name_under letter.B s))
+    (fixed_name_of s)
 
 -- the same, or that there is none
 abbrev pub name_read : List ℕ → Result Name UnknownName

@@ -10,4 +10,5 @@ abbrev pub reading_text : Reading → List ℕ
 reading_text Undefined = codes "undefined"
 reading_text NoPattern = codes "no pattern"
 reading_text (Defined n f m d) =
-    names.spelled n ++ (codes " " ++ (formats.spelled f ++ (codes " " ++ (decimal m ++ (codes " " ++ signed_decimal d)))))
+    names.spelled n ++ (codes " " ++ (formats.spelled f ++ (codes " "
+    ++ (decimal m ++ (codes " " ++ signed_decimal d)))))

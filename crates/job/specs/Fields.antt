@@ -91,7 +91,8 @@ some_registers = do
 -- so many halfwords from an address on, if they lie in the store whole
 abbrev pub area_at : ℕ → ℕ → Option Area
 area_at address halfwords =
-    if nat_le (address + 2 * halfwords) 65536 then Some (record { address = address; halfwords = halfwords })
+    if nat_le (address + 2 * halfwords) 65536
+    then Some (record { address = address; halfwords = halfwords })
     else None
 
 -- one halfword at least

@@ -50,7 +50,9 @@ once e slot r = do
   x ← r
   answer (first_time e slot x)
 
-abbrev pub with_place : List (Option Grant) → Grant → Result ℕ Refusal → Result (List (Option Grant)) Fault
+-- one grant more, at the place that the check found
+abbrev pub with_place : List (Option Grant) → Grant → Result ℕ Refusal
+    → Result (List (Option Grant)) Fault
 with_place gs g (Ok k) = Ok (slice_set gs k (Some g))
 with_place gs g (Err r) = Err (grant_fault r)
 
@@ -88,7 +90,8 @@ entered d entry.Results = do
 
 -- the name of an entry and its values, and no field more
 abbrev pub by_fields : SoFar → List Bytes → Result SoFar Fault
-by_fields d fs = results.◌>>=◌ ((an_entry >>= entered d) fs) (λ p. results.◌>>=◌ (ended p.1) (λ _. Ok p.0))
+by_fields d fs =
+    results.◌>>=◌ ((an_entry >>= entered d) fs) (λ p. results.◌>>=◌ (ended p.1) (λ _. Ok p.0))
 
 -- what the lines so far and one more say; an empty one and one that # begins say nothing
 unfoldable pub line_rule : SoFar → Bytes → Result SoFar Fault

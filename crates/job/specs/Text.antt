@@ -1,5 +1,5 @@
 -- What the whole text of a job says.
-use Rattle.std.specs.Prelude.{ℕ, ◌*◌, not, Ok, Err, Option, Result, if◌then◌else◌}
+use Rattle.std.specs.Prelude.{ℕ, ◌*◌, Bool, not, Ok, Err, Option, Result, if◌then◌else◌}
 use Rattle.std.specs.Option.{ok_or}
 use Rattle.text.specs.declared.fault.AtLine.{AtLine}
 use Rattle.text.specs.Faults.{at_line}
@@ -8,6 +8,7 @@ use Rattle.text.specs.Search.{Bytes}
 use Rattle.text.specs.TakeLine.{lines_taken}
 use Rattle.access.specs.Access.{rights_of, within}
 use Rattle.access.specs.declared.rights.Rights.{Rights}
+use Rattle.access.specs.declared.kind.Use.{Use}
 use Rattle.access.specs.declared.kind.Use.TheVariants.{Load, Copy}
 use Rattle.machine.specs.declared.registers.Registers.{Registers}
 use Rattle.job.specs.declared.area.Area.{Area}
@@ -34,11 +35,15 @@ pub record Says : Type 0 where
 abbrev pub there : {X : Type 0} → Entry → Option X → Result X Fault
 there e o = ok_or o (Missing e)
 
+-- the grants let that be done with all bytes of the area
+abbrev pub within_area : Rights → Use → Area → Bool
+within_area rights use area = within rights use area.address (2 * area.halfwords)
+
 -- records can be put in, and results can be taken
 abbrev pub if_reached : Says → Result Says Fault
 if_reached j =
-    if not (within j.rights Load j.input.address (2 * j.input.halfwords)) then Err (Denied entry.Input)
-    else if not (within j.rights Copy j.output.address (2 * j.output.halfwords)) then Err (Denied entry.Output)
+    if not (within_area j.rights Load j.input) then Err (Denied entry.Input)
+    else if not (within_area j.rights Copy j.output) then Err (Denied entry.Output)
     else Ok j
 
 -- the whole job, after the last line

@@ -33,7 +33,9 @@ answer_before (Ok o) after = some_before o after
 
 -- a halfword at the address e, unless it lies past 65,535
 abbrev pub place_rule : ℕ → ℕ → Bool → Result Placed Fault
-place_rule e h c = if nat_lt e 65536 then Ok (record { address = e; halfword = h; code = c }) else Err Past
+place_rule e h c =
+    if nat_lt e 65536 then Ok (record { address = e; halfword = h; code = c })
+    else Err Past
 
 -- the end after a halfword at e
 abbrev pub end_after : ℕ → ℕ
@@ -82,7 +84,8 @@ listing t s = rest_read (placing t) 0 (whole s)
 
 -- what is left of a listing: the halfwords of the line in hand, and the lines after it
 abbrev pub remaining : Tables → Listing → Read
-remaining t r = numbers_placed r.line r.end (words r.rest.now) (λ e. rest_read (placing t) e r.lines)
+remaining t r =
+    numbers_placed r.line r.end (words r.rest.now) (λ e. rest_read (placing t) e r.lines)
 
 -- the end of what was placed
 abbrev pub end_of : Listing → ℕ

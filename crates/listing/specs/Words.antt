@@ -33,6 +33,7 @@ abbrev pub word_bytes : Option (Bor Bytes) → Option Bytes
 word_bytes None = None
 word_bytes (Some r) = Some r.now
 
-abbrev pub triple_bytes : Option (Bor Bytes × Bor Bytes × Bor Bytes) → Option (Bytes × Bytes × Bytes)
+abbrev pub triple_bytes :
+    Option (Bor Bytes × Bor Bytes × Bor Bytes) → Option (Bytes × Bytes × Bytes)
 triple_bytes None = None
 triple_bytes (Some p) = Some (p.0.now, p.1.now, p.2.now)

@@ -16,7 +16,8 @@ place_of b s = position_or_len (λ x. x == b) s
 -- what stands before the first b, and after it
 abbrev pub cut_at : ℕ → Bytes → Option (Bytes × Bytes)
 cut_at b s =
-    if nat_lt (place_of b s) (length s) then Some (before_first (λ x. x == b) s, after_first (λ x. x == b) s)
+    if nat_lt (place_of b s) (length s)
+    then Some (before_first (λ x. x == b) s, after_first (λ x. x == b) s)
     else None
 
 -- the parts of a text, which each b ends but the last

@@ -17,13 +17,15 @@ abbrev pub whole_outcome : {S F : Type 0} → Result ℕ F → S → Result (S �
 whole_outcome (Ok n) s = Ok (s, n)
 whole_outcome (Err f) s = Err f
 
--- a rule for one line, as one for the text: what all lines say, and the number of the line after the last
-abbrev pub taking : {S F : Type 0} → (S → Bytes → Result S F) → F → LineRule S (Result (S × ℕ) (AtLine F))
+-- a rule for one line, made one for a text: what its lines say, and the number of the line after the last
+abbrev pub taking : {S F : Type 0} → (S → Bytes → Result S F) → F
+    → LineRule S (Result (S × ℕ) (AtLine F))
 taking rule fault = record {
   line = λ n s l rest. at_line n (rule s l) >>= rest;
   end = λ n s. Ok (s, n);
   unended = λ n. at_line n (Err fault);
 }
 
-abbrev pub lines_taken : {S F : Type 0} → (S → Bytes → Result S F) → F → S → Bytes → Result (S × ℕ) (AtLine F)
+abbrev pub lines_taken : {S F : Type 0} → (S → Bytes → Result S F) → F → S → Bytes
+    → Result (S × ℕ) (AtLine F)
 lines_taken rule fault s text = rest_read (taking rule fault) s (whole text)
