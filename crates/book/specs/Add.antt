@@ -40,7 +40,7 @@ add_pattern t name value = do
   place ← ok_or (place_of format) Name
   v ← ok_or (pattern_of (length_at place) value) Value
   if clashes place v 0 t.patterns then Err Repeated
-    else Ok (record t { patterns = slice_set t.patterns place (Some v) })
+      else Ok (record t { patterns = slice_set t.patterns place (Some v) })
 
 abbrev pub unreserved : Option ℕ → Option ℕ
 unreserved None = None
@@ -58,7 +58,7 @@ add_name c t name value = do
   n ← ok_or (name_under c name) Name
   k ← ok_or (number_under c value) Value
   if taken (rows_of c t) n k then Err Repeated
-    else Ok (with_rows c t (slice_set (rows_of c t) k (Some n)))
+      else Ok (with_rows c t (slice_set (rows_of c t) k (Some n)))
 
 -- F, A, L and B are 70, 65, 76 and 66
 abbrev pub by_letter : ℕ → Tables → Bytes → Bytes → Result Tables Fault

@@ -37,7 +37,7 @@ there e o = ok_or o (Missing e)
 
 -- the grants let that be done with all bytes of the area
 abbrev pub within_area : Rights → Use → Area → Bool
-within_area rights use area = within rights use area.address (2 * area.halfwords)
+within_area rights u area = within rights u area.address (2 * area.halfwords)
 
 -- records can be put in, and results can be taken
 abbrev pub if_reached : Says → Result Says Fault
