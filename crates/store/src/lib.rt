@@ -1,4 +1,6 @@
-// A store means 65,536 bytes, at the addresses 0 to 65,535.
+// A store means 65,536 bytes, at the addresses 0 to 65,535. Begin with `store.rt`, the trait: all that a program, a hall and the crates
+// above know of the memory that they run on. `bulk.rt` moves many bytes at once, `check.rt` tells memory of the right size, and
+// `Owned` is the plainest store, over bytes of its own.
 #![tactic(auto)]
 
 mod bulk;
