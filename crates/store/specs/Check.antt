@@ -8,5 +8,5 @@ abbrev pub number : SizeError → ℕ
 number Size = 8
 
 -- memory of so many bytes
-abbrev pub sized : ℕ → Result (Unit {0}) SizeError
-sized bytes = if bytes == 65536 then Ok tt else Err Size
+abbrev pub size_check : ℕ → Result (Unit {0}) SizeError
+size_check bytes = if bytes == 65536 then Ok tt else Err Size

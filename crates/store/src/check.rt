@@ -1,4 +1,4 @@
-ghost use Rattle.store.specs.Check.{sized};
+ghost use Rattle.store.specs.Check.{size_check};
 ghost use Rattle.std.specs.Prelude.{◌≡◌, length};
 
 use thiserror::Error;
@@ -20,7 +20,7 @@ impl SizeError {
 
 /// The check before a store is made: refuses memory of another size than 65,536 bytes.
 pub fn check_size(memory: &[u8]) -> Result<(), SizeError>
-    ensures { result ≡ sized (length memory.now) }
+    ensures { result ≡ size_check (length memory.now) }
 {
     if memory.len() == 65536 {
         Ok(())
