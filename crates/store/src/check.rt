@@ -1,9 +1,9 @@
-ghost use Rattle.store.specs.Check.{numbered, sized};
+ghost use Rattle.store.specs.Check.{size_check};
 ghost use Rattle.std.specs.Prelude.{◌≡◌, length};
 
 use thiserror::Error;
 
-// Why a store cannot be made.
+/// Why a store cannot be made.
 #[derive(Clone, Copy, Debug, PartialEq, Eq, Error)]
 pub enum SizeError {
     #[error("a store has 65536 bytes")]
@@ -18,9 +18,9 @@ impl SizeError {
     }
 }
 
-// The check before a store is made: refuses memory of another size than 65,536 bytes.
+/// The check before a store is made: refuses memory of another size than 65,536 bytes.
 pub fn check_size(memory: &[u8]) -> Result<(), SizeError>
-    ensures { numbered result ≡ sized (length memory.now) }
+    ensures { result ≡ size_check (length memory.now) }
 {
     if memory.len() == 65536 {
         Ok(())

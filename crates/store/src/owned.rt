@@ -3,7 +3,7 @@ ghost use Rattle.std.specs.Prelude.{◌≡◌, [], vec_len};
 
 use crate::store::Store;
 
-// A store that owns its bytes.
+/// A store that owns its bytes.
 #[derive(Drop)]
 pub struct Owned {
     held: Vec<u8>,
@@ -11,7 +11,7 @@ pub struct Owned {
 }
 
 impl Owned {
-    // Needs `check_size` passed.
+    /// Needs `check_size` passed.
     pub fn new(image: Vec<u8>) -> Owned
         requires { vec_len image ≡ 65536 }
         ensures { result.held.items ≡ image.items }

@@ -1,4 +1,5 @@
-ghost use Rattle.std.specs.Prelude.{◌≡◌, ◌/◌, ◌<◌, ◌≢◌, ℕ, length, slice_index, slice_set};
+ghost use Rattle.stores.specs.Image.{with_page};
+ghost use Rattle.std.specs.Prelude.{◌≡◌, ◌<◌, length, slice_set};
 
 // Writes into memory that the caller lends are made here, by functions that take it as a slice: that the slice keeps its size is
 // then known where it is a store's.
@@ -14,8 +15,7 @@ pub(crate) fn put(bytes: &mut [u8], address: u16, byte: u8)
 pub(crate) fn copy_page(to: &mut [u8], from: &[u8], page: usize)
     requires { (length to.old ≡ 65536) × ((length from.now ≡ 65536) × (page < 64)) }
     ensures size { length to.new ≡ 65536 }
-    ensures copied { (at : ℕ) → at / 1024 ≡ page → slice_index to.new at ≡ slice_index from.now at }
-    ensures others { (at : ℕ) → at / 1024 ≢ page → slice_index to.new at ≡ slice_index to.old at }
+    ensures copied { to.new ≡ with_page to.old from.now page }
 {
     let start = page * 1024;
     to[start..start + 1024].copy_from_slice(&from[start..start + 1024]);

@@ -1,28 +1,28 @@
-ghost use Rattle.stores.specs.Pages.{length_tabulate, mapped, pages_once, place};
+ghost use Rattle.stores.specs.Mapped.{is_page_table, length-mapped_bytes, mapped_bytes, place};
 ghost use Rattle.std.specs.Prelude.{◌≡◌, ◌++◌, ◌/◌, ◌<◌, length, slice_index, true};
 
 use store::Store;
 
-// A store by the pages of another: page p is the one below that the table gives for p.
+/// A store by the pages of another: page p is the one below that the table gives for p.
 #[derive(Drop)]
 pub struct Mapped<S: Store> {
     below: S,
     table: [u8; 64],
     ghost paged: { length table ≡ 64 },
-    ghost once: { pages_once table ≡ true },
+    ghost once: { is_page_table table ≡ true },
 }
 
 impl<S: Store> Mapped<S> {
-    // Needs `check_table` passed.
+    /// Needs `check_table` passed.
     pub fn new(below: S, table: [u8; 64]) -> Mapped<S>
-        requires { pages_once table ≡ true }
+        requires { is_page_table table ≡ true }
         ensures below { result.below ≡ below }
         ensures table { result.table ≡ table }
     {
         Mapped { below, table }
     }
 
-    // The store below, as it is by then.
+    /// The store below, as it is by then.
     pub fn release(self) -> S
         ensures { result ≡ self.below }
     {
@@ -47,11 +47,11 @@ impl<S: Store> Mapped<S> {
 }
 
 impl<S: Store> Store for Mapped<S> {
-    ghost bytes = { λ s. mapped s.table (S.Store.bytes s.below) };
+    ghost bytes = { λ s. mapped_bytes s.table (S.Store.bytes s.below) };
 
     ghost footing = { λ s. s.table ++ S.Store.footing s.below };
 
-    ghost full = { λ s. length_tabulate 65536 (λ at. slice_index (S.Store.bytes s.below) (place s.table at)) };
+    ghost full = { λ s. length-mapped_bytes s.table (S.Store.bytes s.below) };
 
     fn read(&self, address: u16) -> u8 {
         self.below.read(self.place_of(address))
@@ -67,3 +67,6 @@ impl<S: Store> Store for Mapped<S> {
         self.below.write(place, byte);
     }
 }
+
+#[cfg(test)]
+mod tests;

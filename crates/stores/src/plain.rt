@@ -3,7 +3,7 @@ ghost use Rattle.std.specs.Prelude.{◌≡◌, [], ◌∷◌, length};
 use crate::lent::put;
 use store::Store;
 
-// A store over memory that the caller lends.
+/// A store over memory that the caller lends.
 #[derive(Drop)]
 pub struct Plain<'a> {
     memory: &'a mut [u8],
@@ -11,7 +11,7 @@ pub struct Plain<'a> {
 }
 
 impl<'a> Plain<'a> {
-    // Needs `check_size` passed.
+    /// Needs `check_size` passed.
     pub fn new(memory: &'a mut [u8]) -> Plain<'a>
         requires { length memory.old ≡ 65536 }
         ensures { result.memory ≡ memory.entry }

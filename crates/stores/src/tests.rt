@@ -1,23 +1,12 @@
 use crate::image::Image;
-use crate::lending::Lending;
-use crate::mapped::Mapped;
 use crate::plain::Plain;
-use crate::{TableError, check_table};
 use std::alloc::{AllocError, Global};
 use std::process::Abort;
 use std::test::Fail;
 use store::{Store, check_size};
 
-fn filled(alloc: Global, byte: u8) -> Result<Vec<u8>, AllocError> {
+pub(crate) fn filled(alloc: Global, byte: u8) -> Result<Vec<u8>, AllocError> {
     vec![in alloc; byte; 65536]
-}
-
-fn reversal() -> [u8; 64] {
-    let mut table = [0u8; 64];
-    for (page, place) in (0..64u8).zip(table.iter_mut()) {
-        *place = 63u8.saturating_sub(page);
-    }
-    table
 }
 
 fn image_of<'a>(rt: &impl Abort, image: &'a [u8], work: &'a mut [u8]) -> Image<'a> {
@@ -27,7 +16,7 @@ fn image_of<'a>(rt: &impl Abort, image: &'a [u8], work: &'a mut [u8]) -> Image<'
     }
 }
 
-fn plain<'a>(rt: &impl Abort, memory: &'a mut [u8]) -> Plain<'a> {
+pub(crate) fn plain<'a>(rt: &impl Abort, memory: &'a mut [u8]) -> Plain<'a> {
     match check_size(memory) {
         Ok(()) => Plain::new(memory),
         Err(_unmade) => panic!(rt; "a store's size"),
@@ -35,21 +24,21 @@ fn plain<'a>(rt: &impl Abort, memory: &'a mut [u8]) -> Plain<'a> {
 }
 
 // The first and the last byte of page 1, with their neighbours.
-fn write_both(store: &mut impl Store) {
+pub(crate) fn write_both(store: &mut impl Store) {
     store.write(1024, 1);
     store.write(2047, 2);
 }
 
-fn around(store: &impl Store) -> [u8; 6] {
+pub(crate) fn around(store: &impl Store) -> [u8; 6] {
     [1023, 1024, 1025, 2046, 2047, 2048].map(|at| store.read(at))
 }
 
 // The halfwords of the same bytes, by either address, and the last of all.
-fn halves(store: &impl Store) -> [[u8; 2]; 6] {
+pub(crate) fn halves(store: &impl Store) -> [[u8; 2]; 6] {
     [1023, 1024, 1025, 2046, 2047, 65535].map(|at| store.read_half(at))
 }
 
-const HALVES: [[u8; 2]; 6] = [[7, 7], [1, 7], [1, 7], [7, 2], [7, 2], [7, 7]];
+pub(crate) const HALVES: [[u8; 2]; 6] = [[7, 7], [1, 7], [1, 7], [7, 2], [7, 2], [7, 7]];
 
 fn at(memory: &[u8], places: [usize; 3]) -> [u8; 3] {
     places.map(|place| memory.get(place).copied().unwrap_or(0))
@@ -80,42 +69,6 @@ fn a_page_of_an_image(rt: HostRuntime) -> Result<(), Fail> {
     assert_eq!(rt; at(&work, [1023, 1024, 1025]), [9, 1, 7]);
     assert_eq!(rt; at(&work, [2046, 2047, 2048]), [7, 2, 9]);
     assert!(rt; image.iter().all(|byte| *byte == 7));
-    Ok(())
-}
-
-// Page 1 of the store lies at page 62 below.
-#[test]
-fn a_page_through_a_table(rt: HostRuntime) -> Result<(), Fail> {
-    let table = reversal();
-    let mut memory = filled(rt.alloc(), 7)?;
-    let mut below = plain(&rt, &mut memory);
-    if check_table(&table).is_ok() {
-        let mut store = Mapped::new(Lending::new(&mut below), table);
-        write_both(&mut store);
-        assert_eq!(rt; around(&store), [7, 1, 7, 7, 2, 7]);
-        assert_eq!(rt; halves(&store), HALVES);
-    }
-    assert_eq!(rt;
-        [
-            below.read(63488),
-            below.read(63489),
-            below.read(64510),
-            below.read(64511)
-        ],
-        [1, 7, 7, 2]
-    );
-    assert_eq!(rt; [below.read(1024), below.read(2047)], [7, 7]);
-    Ok(())
-}
-
-#[test]
-fn tables_that_are_none(rt: HostRuntime) -> Result<(), Fail> {
-    let mut table = reversal();
-    assert_eq!(rt; check_table(&table).map_err(TableError::number), Ok(()));
-    table[0] = 64;
-    assert_eq!(rt; check_table(&table).map_err(TableError::number), Err(9));
-    table[0] = 62;
-    assert_eq!(rt; check_table(&table).map_err(TableError::number), Err(9));
     Ok(())
 }
 

@@ -1,5 +1,5 @@
 use Rattle.std.proofs.Common.{◌/◌, arith, rules}
-use Rattle.stores.proofs.Pages.{small_of}
+use Rattle.stores.proofs.MappedLemmas.{small_of}
 use Rattle.stores.proofs.mapped.Mapped.page_at.Goals as goal
 
 pub returns-clause-within : goal.returns-clause-within

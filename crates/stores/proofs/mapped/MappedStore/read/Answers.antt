@@ -1,4 +1,4 @@
-use Rattle.stores.proofs.Pages.{mapped_read}
+use Rattle.stores.proofs.MappedLemmas.{mapped_read}
 use Rattle.stores.proofs.mapped.MappedStore.read.Goals as goal
 
 pub returns : goal.returns

@@ -1,4 +1,4 @@
-use Rattle.stores.proofs.Pages.{mapped_read_half}
+use Rattle.stores.proofs.MappedLemmas.{mapped_read_half}
 use Rattle.stores.proofs.mapped.MappedStore.read_half.Goals as goal
 
 pub returns : goal.returns

@@ -1,4 +1,4 @@
-use Rattle.stores.proofs.Pages.{mapped_write}
+use Rattle.stores.proofs.MappedLemmas.{mapped_write}
 use Rattle.stores.proofs.mapped.MappedStore.write.Goals as goal
 
 pub returns-clause-bytes : goal.returns-clause-bytes

@@ -1,8 +1,8 @@
 ghost use Rattle.std.specs.Prelude.{◌≡◌, ◌∷◌};
 
-use store::Store;
+use crate::store::Store;
 
-// A store that its owner lends for a while: what is written is written there, and `release` gives it back.
+/// A store that its owner lends for a while: what is written is written there, and `release` gives it back.
 #[derive(Drop)]
 pub struct Lending<'a, S: Store> {
     store: &'a mut S,
