@@ -3,10 +3,10 @@ use Rattle.std.specs.Prelude.{ℕ, cond, nat_le}
 use Rattle.access.specs.declared.rights.Grant.{Grant}
 use Rattle.bays.specs.declared.stage.Stage.TheVariants.{Preparing, Sealed}
 use Rattle.history.specs.Calls.{Answer, call, grant, open_bay, own, refused, seal, shared, turn}
-use Rattle.history.specs.Hall.{Hall, Told, apply}
+use Rattle.history.specs.Hall.{Hall, CallEnd, apply}
 
 -- bay 1 with one grant, and the same bay sealed
-abbrev pub granted : Grant → Hall → Told
+abbrev pub granted : Grant → Hall → CallEnd
 granted g H = apply (call 1 Preparing (shared (grant g))) (apply (call 1 Preparing (shared open_bay)) H).hall
 
 abbrev pub sealed : Grant → Hall → Hall

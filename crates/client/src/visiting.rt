@@ -29,7 +29,7 @@ pub fn visit<S: Store + Drop>(
     grant: Grant,
     budget: u16,
 ) -> Result<Turned, Refusal>
-    ensures { answered (λ t. turned t.steps (stop_told t.stop)) (λ e. e) result ≡ visited grant budget (over (S.Store.footing store) (new book (S.Store.bytes store))) }
+    ensures { answered (λ t. turned t.steps (stop_told t.stop)) (λ e. e) result ≡ visited grant budget (over (S.Store.footing store) (new book.tables (S.Store.bytes store))) }
 {
     let mut hall = Hall::new(store, book);
     let preparing = hall.open(1)?;
