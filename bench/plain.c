@@ -1,5 +1,9 @@
 /* A plain interpreter of the machine in C, for measuring: the instructions,
- * grants and stops of machine.md, readings by a table of all 65,536 words.
+ * grants and stops of machine.md. It does what a quick one would do and no
+ * more: what a word means is looked up in a table of all 65,536, which has
+ * its base, and its D in bytes; of each use of the store the range that
+ * served it last is asked first; and the program's registers are variables
+ * of the loop over its steps.
  *
  *     plain BOOK IMAGE JOB RECORDS RUNS
  *
@@ -14,6 +18,10 @@
 #include <stdlib.h>
 #include <string.h>
 #include <time.h>
+
+/* A step is one piece, but for what is seldom done. */
+#define INLINE inline __attribute__((always_inline))
+#define NOINLINE __attribute__((noinline))
 
 #define NAMES_A(X) \
     X(LDB) X(LD) X(LDW) X(LDX) X(STB) X(ST) X(STW) X(STX) X(AD) X(ADW) X(SB) \
@@ -44,32 +52,44 @@ enum format { A1, A2, A3, A4, A5, L, B_FORMAT };
 static const int m_bits[] = { 0, 2, 0, 2, 2, 0, 0 };
 static const int d_bits[] = { 8, 7, 6, 5, 4, 8, 10 };
 
-struct instruction {
-    uint8_t name, format, m;
-    int16_t d;
-};
+/* What an operand's address begins with. */
+enum { AT_ZERO, AT_L, AT_S, AT_Y, AT_Z };
 
-struct grant {
-    int write;
-    uint16_t first, last;
+struct instruction {
+    uint8_t name;
+    uint8_t base;
+    uint8_t is_a;       /* an operand in the store */
+    uint8_t by_pointer; /* A3, A4 */
+    int16_t d;          /* in bytes, where it counts items, halfwords or words */
+    int16_t index;      /* the bytes by which x counts, or 0 */
 };
 
 struct registers {
     int32_t a;
     uint32_t b;
     int16_t x;
-    uint16_t y, z, s, l;
+    uint16_t at[5]; /* by what an address may begin with */
     int fm, n, zr, of, ca;
 };
 
 enum use { FETCH, POINTER, OPERAND, RESULT };
 
+/* The bytes from first to before end. */
+struct range {
+    unsigned first, end;
+};
+
+/* Those of grants: of all, or of the write grants. */
+struct ranges {
+    int count;
+    struct range list[6];
+};
+
 struct bay {
     struct registers r;
-    struct grant grants[6];
-    int grant_count;
-    int recent[4]; /* for each use the grant that served it last */
-    int cause;     /* of the stop that stands, or 0 */
+    struct ranges readable, writable;
+    struct range recent[4]; /* for each use the one that served it last */
+    int cause;              /* of the stop that stands, or 0 */
     uint16_t stop_address, stop_byte;
     int stop_use;
 };
@@ -82,15 +102,33 @@ static uint8_t store[65536];
 static int class_number[4][64]; /* names by letter A, L, B and number */
 static char patterns[5][8];
 
+static int item_length(int name)
+{
+    switch (name) {
+    case LDB: case STB: return 1;
+    case LDW: case STW: case ADW: case SBW: case CPW: case NW: return 4;
+    default: return 2;
+    }
+}
+
 static struct instruction reading(int name, int format, unsigned word)
 {
-    struct instruction i = { (uint8_t)name, (uint8_t)format, 0, 0 };
+    static const uint8_t bases[] = { AT_L, AT_S, AT_Y, AT_Z };
+    struct instruction i = { .name = (uint8_t)name };
     int d = (int)(word & ((1u << d_bits[format]) - 1));
-    int is_signed = format == B_FORMAT || (name >= BZ && name <= BOF);
-    if (is_signed && d >= 1 << (d_bits[format] - 1))
+    unsigned m = word >> d_bits[format] & ((1u << m_bits[format]) - 1);
+    int branches = name == B || name == BL || (name >= BZ && name <= BOF);
+    if (branches && d >= 1 << (d_bits[format] - 1))
         d -= 1 << d_bits[format];
-    i.d = (int16_t)d;
-    i.m = (uint8_t)(word >> d_bits[format] & ((1u << m_bits[format]) - 1));
+    i.d = (int16_t)(branches ? 2 * d : d);
+    if (format <= A5) {
+        int length = item_length(name);
+        i.is_a = 1;
+        i.by_pointer = format == A3 || format == A4;
+        i.base = format == A1 || format == A3 || (format == A5 && m == 1) ? AT_ZERO : bases[m];
+        i.d = (int16_t)(d * (i.by_pointer ? 2 : length));
+        i.index = (int16_t)(format == A1 || format == A2 ? 0 : length);
+    }
     return i;
 }
 
@@ -130,129 +168,127 @@ static void make_readings(void)
             readings[word] = reading(name, format, word);
     }
     for (size_t i = 0; i < sizeof whole / sizeof *whole; i++) {
-        struct instruction fixed = { (uint8_t)whole[i].name, L, 0, 0 };
+        struct instruction fixed = { .name = (uint8_t)whole[i].name };
         readings[whole[i].word] = fixed;
     }
 }
 
 /* ---- grants */
 
-static int may(const struct bay *bay, int write, uint16_t byte)
+static NOINLINE int allowed_anew(struct bay *bay, enum use use, unsigned first, unsigned end)
 {
-    for (int i = 0; i < bay->grant_count; i++) {
-        const struct grant *g = &bay->grants[i];
-        if (g->write >= write && g->first <= byte && byte <= g->last)
-            return 1;
-    }
-    return 0;
-}
-
-static int allowed_slowly(struct bay *bay, enum use use, uint16_t first, uint16_t last)
-{
-    int write = use == RESULT;
-    for (int i = 0; i < bay->grant_count; i++) {
-        const struct grant *g = &bay->grants[i];
-        if (g->write >= write && g->first <= first && last <= g->last) {
-            bay->recent[use] = i;
+    const struct ranges *ranges = use == RESULT ? &bay->writable : &bay->readable;
+    const struct range *past = ranges->list + ranges->count;
+    for (const struct range *range = ranges->list; range < past; range++)
+        if (range->first <= first && end <= range->end) {
+            bay->recent[use] = *range;
             return 1;
         }
-    }
-    for (unsigned byte = first; byte <= last; byte++)
-        if (!may(bay, write, (uint16_t)byte)) {
+    /* No range has them all: each byte for itself. */
+    for (; first < end; first++) {
+        const struct range *range = ranges->list;
+        while (range < past && !(range->first <= first && first < range->end))
+            range++;
+        if (range == past) {
             bay->stop_use = use;
-            bay->stop_byte = (uint16_t)byte;
+            bay->stop_byte = (uint16_t)first;
             return 0;
         }
+    }
     return 1;
 }
 
-static inline int allowed(struct bay *bay, enum use use, uint16_t first, uint16_t last)
+static INLINE int allowed(struct bay *bay, enum use use, unsigned first, unsigned length)
 {
-    int i = bay->recent[use];
-    const struct grant *g = &bay->grants[i];
-    if (i < bay->grant_count && g->write >= (use == RESULT) && g->first <= first && last <= g->last)
+    const struct range *recent = &bay->recent[use];
+    if (recent->first <= first && first + length <= recent->end)
         return 1;
-    return allowed_slowly(bay, use, first, last);
+    return allowed_anew(bay, use, first, first + length);
 }
 
-/* ---- accesses: the result is whether they are allowed */
+/* ---- accesses, at addresses modulo 65,536: the result is whether they are allowed */
 
-static inline int read_byte(struct bay *bay, uint16_t at, unsigned *value)
+static INLINE int read_byte(struct bay *bay, unsigned at, unsigned *value)
 {
-    if (!allowed(bay, OPERAND, at, at))
+    at &= 0xFFFF;
+    if (!allowed(bay, OPERAND, at, 1))
         return 0;
     *value = store[at];
     return 1;
 }
 
-static inline int read_halfword(struct bay *bay, enum use use, uint16_t at, uint16_t *value)
+static INLINE int read_halfword(struct bay *bay, enum use use, unsigned at, uint16_t *value)
 {
     at &= 0xFFFE;
-    if (!allowed(bay, use, at, at + 1))
+    if (!allowed(bay, use, at, 2))
         return 0;
-    *value = (uint16_t)(store[at] << 8 | store[at + 1]);
+    const uint8_t *bytes = &store[at];
+    *value = (uint16_t)(bytes[0] << 8 | bytes[1]);
     return 1;
 }
 
-static inline int read_fullword(struct bay *bay, uint16_t at, uint32_t *value)
+static INLINE int read_fullword(struct bay *bay, unsigned at, uint32_t *value)
 {
     at &= 0xFFFC;
-    if (!allowed(bay, OPERAND, at, at + 3))
+    if (!allowed(bay, OPERAND, at, 4))
         return 0;
-    *value = (uint32_t)store[at] << 24 | (uint32_t)store[at + 1] << 16
-        | (uint32_t)store[at + 2] << 8 | store[at + 3];
+    const uint8_t *bytes = &store[at];
+    *value = (uint32_t)bytes[0] << 24 | (uint32_t)bytes[1] << 16 | (uint32_t)bytes[2] << 8 | bytes[3];
     return 1;
 }
 
-static inline int write_byte(struct bay *bay, uint16_t at, unsigned value)
+static INLINE int write_byte(struct bay *bay, unsigned at, unsigned value)
 {
-    if (!allowed(bay, RESULT, at, at))
+    at &= 0xFFFF;
+    if (!allowed(bay, RESULT, at, 1))
         return 0;
     store[at] = (uint8_t)value;
     return 1;
 }
 
-static inline int write_halfword(struct bay *bay, uint16_t at, unsigned value)
+static INLINE int write_halfword(struct bay *bay, unsigned at, unsigned value)
 {
     at &= 0xFFFE;
-    if (!allowed(bay, RESULT, at, at + 1))
+    if (!allowed(bay, RESULT, at, 2))
         return 0;
     store[at] = (uint8_t)(value >> 8);
     store[at + 1] = (uint8_t)value;
     return 1;
 }
 
-static inline int write_fullword(struct bay *bay, uint16_t at, uint32_t value)
+static INLINE int write_fullword(struct bay *bay, unsigned at, uint32_t value)
 {
     at &= 0xFFFC;
-    if (!allowed(bay, RESULT, at, at + 3))
+    if (!allowed(bay, RESULT, at, 4))
         return 0;
-    for (int i = 0; i < 4; i++)
-        store[at + i] = (uint8_t)(value >> (24 - 8 * i));
+    store[at] = (uint8_t)(value >> 24);
+    store[at + 1] = (uint8_t)(value >> 16);
+    store[at + 2] = (uint8_t)(value >> 8);
+    store[at + 3] = (uint8_t)value;
     return 1;
 }
 
 /* ---- instructions */
 
-static inline void mark(struct registers *r, int n, int zr)
+static INLINE void mark(struct registers *r, int n, int zr)
 {
     r->n = n;
     r->zr = zr;
 }
 
-static inline void load_a(struct registers *r, int32_t value)
+static INLINE void load_a(struct registers *r, int32_t value)
 {
     r->a = value;
     mark(r, value < 0, value == 0);
 }
 
-static inline void load_x(struct registers *r, int16_t value)
+static INLINE void load_x(struct registers *r, int16_t value)
 {
     r->x = value;
     mark(r, value < 0, value == 0);
 }
 
-static inline int32_t apparent32(struct registers *r, int64_t exact)
+static INLINE int32_t apparent32(struct registers *r, int64_t exact)
 {
     int32_t apparent = (int32_t)exact;
     mark(r, exact < 0, apparent == 0);
@@ -260,7 +296,7 @@ static inline int32_t apparent32(struct registers *r, int64_t exact)
     return apparent;
 }
 
-static inline int16_t apparent16(struct registers *r, int32_t exact)
+static INLINE int16_t apparent16(struct registers *r, int32_t exact)
 {
     int16_t apparent = (int16_t)exact;
     mark(r, exact < 0, apparent == 0);
@@ -268,31 +304,31 @@ static inline int16_t apparent16(struct registers *r, int32_t exact)
     return apparent;
 }
 
-static inline int32_t add32(struct registers *r, int32_t operand)
+static INLINE int32_t add32(struct registers *r, int32_t operand)
 {
     r->ca = (uint32_t)r->a + (uint32_t)operand < (uint32_t)operand;
     return apparent32(r, (int64_t)r->a + operand);
 }
 
-static inline int32_t subtract32(struct registers *r, int32_t operand)
+static INLINE int32_t subtract32(struct registers *r, int32_t operand)
 {
     r->ca = (uint32_t)r->a < (uint32_t)operand;
     return apparent32(r, (int64_t)r->a - operand);
 }
 
-static inline int16_t add16(struct registers *r, int16_t operand)
+static INLINE int16_t add16(struct registers *r, int16_t operand)
 {
     r->ca = (uint16_t)r->x + (uint16_t)operand > 65535;
     return apparent16(r, r->x + operand);
 }
 
-static inline int16_t subtract16(struct registers *r, int16_t operand)
+static INLINE int16_t subtract16(struct registers *r, int16_t operand)
 {
     r->ca = (uint16_t)r->x < (uint16_t)operand;
     return apparent16(r, r->x - operand);
 }
 
-static int bit_instruction(struct registers *r, unsigned control)
+static INLINE int bit_instruction(struct registers *r, unsigned control)
 {
     unsigned bit = 0x8000u >> (control & 15);
     unsigned al = (uint32_t)r->a & 0xFFFF;
@@ -310,47 +346,46 @@ static int bit_instruction(struct registers *r, unsigned control)
     return 1;
 }
 
-/* 0 if done, else the cause of a stop; *next is set back while the string goes on. */
-static int string(struct bay *bay, int name, uint16_t *next)
+/* Whether it is done. s goes back to the instruction while the string goes on. */
+static INLINE int string(struct bay *bay, struct registers *r, int name)
 {
-    struct registers *r = &bay->r;
     int16_t x = r->x;
     unsigned from, to, byte;
     uint16_t halfword;
     int differs = 0, n = 0;
     if (x == 0) {
         mark(r, 0, 1);
-        return 0;
+        return 1;
     }
     x += x < 0 ? 1 : -1;
     switch (name) {
     case MBS:
-        if (!read_byte(bay, (uint16_t)(r->z + x), &byte)
-            || !write_byte(bay, (uint16_t)(r->y + x), byte))
-            return 2;
+        if (!read_byte(bay, (unsigned)(r->at[AT_Z] + x), &byte)
+            || !write_byte(bay, (unsigned)(r->at[AT_Y] + x), byte))
+            return 0;
         break;
     case MHS:
-        if (!read_halfword(bay, OPERAND, (uint16_t)(r->z + 2 * x), &halfword)
-            || !write_halfword(bay, (uint16_t)(r->y + 2 * x), halfword))
-            return 2;
+        if (!read_halfword(bay, OPERAND, (unsigned)(r->at[AT_Z] + 2 * x), &halfword)
+            || !write_halfword(bay, (unsigned)(r->at[AT_Y] + 2 * x), halfword))
+            return 0;
         break;
     case TRBS:
-        if (!read_byte(bay, (uint16_t)(r->y + x), &byte)
-            || !read_byte(bay, (uint16_t)(r->z + byte), &byte)
-            || !write_byte(bay, (uint16_t)(r->y + x), byte))
-            return 2;
+        if (!read_byte(bay, (unsigned)(r->at[AT_Y] + x), &byte)
+            || !read_byte(bay, (unsigned)(r->at[AT_Z] + byte), &byte)
+            || !write_byte(bay, (unsigned)(r->at[AT_Y] + x), byte))
+            return 0;
         break;
     case CPBS:
-        if (!read_byte(bay, (uint16_t)(r->z + x), &from)
-            || !read_byte(bay, (uint16_t)(r->y + x), &to))
-            return 2;
+        if (!read_byte(bay, (unsigned)(r->at[AT_Z] + x), &from)
+            || !read_byte(bay, (unsigned)(r->at[AT_Y] + x), &to))
+            return 0;
         differs = from != to;
         n = from < to;
         break;
     default: /* SCBS */
-        if (!read_byte(bay, (uint16_t)(r->y + x), &byte)
-            || !read_byte(bay, (uint16_t)(r->z + byte), &byte))
-            return 2;
+        if (!read_byte(bay, (unsigned)(r->at[AT_Y] + x), &byte)
+            || !read_byte(bay, (unsigned)(r->at[AT_Z] + byte), &byte))
+            return 0;
         differs = (byte & (uint32_t)r->a & 255) != 0;
         break;
     }
@@ -360,110 +395,73 @@ static int string(struct bay *bay, int name, uint16_t *next)
     else if (differs)
         mark(r, n, 0);
     else
-        *next = r->s;
-    return 0;
+        r->at[AT_S] -= 2;
+    return 1;
 }
 
 /* ---- operands: the result is whether all accesses are allowed */
 
-static inline int operand_address(struct bay *bay, struct instruction i, uint16_t next,
-    unsigned length, uint16_t *at)
+static INLINE int operand_address(struct bay *bay, const struct registers *r,
+    const struct instruction *i, unsigned *at)
 {
-    const struct registers *r = &bay->r;
-    unsigned item = length * (unsigned)i.d, index = length * (uint16_t)r->x;
-    uint16_t base = 0, pointer = 0;
-    switch (i.m) {
-    case 0: base = r->l; break;
-    case 1: base = next; break;
-    case 2: base = r->y; break;
-    case 3: base = r->z; break;
-    }
-    switch (i.format) {
-    case A1:
-        *at = (uint16_t)item;
-        return 1;
-    case A2:
-        *at = (uint16_t)(base + item);
-        return 1;
-    case A3:
-        if (!read_halfword(bay, POINTER, (uint16_t)(2 * i.d), &pointer))
+    unsigned address = r->at[i->base] + (unsigned)i->d;
+    uint16_t pointer;
+    if (i->by_pointer) {
+        if (!read_halfword(bay, POINTER, address, &pointer))
             return 0;
-        *at = (uint16_t)(pointer + index);
-        return 1;
-    case A4:
-        if (!read_halfword(bay, POINTER, (uint16_t)(base + 2 * i.d), &pointer))
-            return 0;
-        *at = (uint16_t)(pointer + index);
-        return 1;
-    default: /* A5 */
-        *at = (uint16_t)((i.m == 1 ? 0 : base) + item + index);
-        return 1;
+        address = pointer;
     }
-}
-
-static inline int get_halfword(struct bay *bay, struct instruction i, uint16_t next, int16_t *value)
-{
-    uint16_t at, halfword;
-    if (!operand_address(bay, i, next, 2, &at) || !read_halfword(bay, OPERAND, at, &halfword))
-        return 0;
-    *value = (int16_t)halfword;
+    *at = address + (unsigned)(i->index * r->x);
     return 1;
 }
 
-static inline int get_fullword(struct bay *bay, struct instruction i, uint16_t next, int32_t *value)
+/* Does one step: 0 if done, else the cause, and then nothing but s was altered. */
+static INLINE int step(struct bay *bay, struct registers *r)
 {
-    uint16_t at;
-    uint32_t fullword;
-    if (!operand_address(bay, i, next, 4, &at) || !read_fullword(bay, at, &fullword))
-        return 0;
-    *value = (int32_t)fullword;
-    return 1;
-}
-
-static inline int put_halfword(struct bay *bay, struct instruction i, uint16_t next, unsigned value)
-{
-    uint16_t at;
-    return operand_address(bay, i, next, 2, &at) && write_halfword(bay, at, value & 0xFFFF);
-}
-
-/* Does one step: 0 if done, else the cause, and then nothing was altered. */
-static inline int step(struct bay *bay)
-{
-    struct registers *r = &bay->r;
-    uint16_t word, at;
+    uint16_t word, halfword;
     int16_t h;
+    uint32_t fullword;
     int32_t w;
-    unsigned byte;
-    int cause;
+    unsigned byte, at = 0;
 
-    if (!read_halfword(bay, FETCH, r->s, &word))
+    if (!read_halfword(bay, FETCH, r->at[AT_S], &word))
         return 2;
-    struct instruction i = readings[word];
-    uint16_t next = (uint16_t)(r->s + 2);
-    uint16_t target = (uint16_t)(next + 2 * i.d);
-    if (i.name == UNDEFINED)
-        return 1;
-    if (i.format <= A5 && r->fm)
-        return 4;
+    const struct instruction *i = &readings[word];
+    r->at[AT_S] += 2;
+    if (i->is_a) {
+        if (r->fm)
+            return 4;
+        if (!operand_address(bay, r, i, &at))
+            return 2;
+    }
 
-#define HALFWORD do if (!get_halfword(bay, i, next, &h)) return 2; while (0)
-#define FULLWORD do if (!get_fullword(bay, i, next, &w)) return 2; while (0)
-#define PUT(value) do if (!put_halfword(bay, i, next, (unsigned)(value))) return 2; while (0)
+/* What the operand holds, and what goes there. */
+#define HALFWORD \
+    if (!read_halfword(bay, OPERAND, at, &halfword)) \
+        return 2; \
+    h = (int16_t)halfword
+#define FULLWORD \
+    if (!read_fullword(bay, at, &fullword)) \
+        return 2; \
+    w = (int32_t)fullword
+#define PUT(value) \
+    if (!write_halfword(bay, at, (unsigned)(value))) \
+        return 2
 
-    switch (i.name) {
+    switch (i->name) {
     case LDB:
-        if (!operand_address(bay, i, next, 1, &at) || !read_byte(bay, at, &byte))
+        if (!read_byte(bay, at, &byte))
             return 2;
         load_a(r, (int32_t)byte);
         break;
     case LD: HALFWORD; load_a(r, h); break;
     case LDW: FULLWORD; load_a(r, w); break;
-    case LDL: load_a(r, i.d); break;
+    case LDL: load_a(r, i->d); break;
     case LDX: HALFWORD; load_x(r, h); break;
 
     case STB:
         byte = (uint32_t)r->a & 255;
-        if (!operand_address(bay, i, next, 1, &at) || !write_byte(bay, at, byte))
+        if (!write_byte(bay, at, byte))
             return 2;
         mark(r, 0, byte == 0);
         break;
@@ -473,7 +471,7 @@ static inline int step(struct bay *bay)
         r->of |= r->a != (int16_t)r->a;
         break;
     case STW:
-        if (!operand_address(bay, i, next, 4, &at) || !write_fullword(bay, at, (uint32_t)r->a))
+        if (!write_fullword(bay, at, (uint32_t)r->a))
             return 2;
         mark(r, r->a < 0, r->a == 0);
         break;
@@ -481,21 +479,21 @@ static inline int step(struct bay *bay)
 
     case AD: HALFWORD; r->a = add32(r, h); break;
     case ADW: FULLWORD; r->a = add32(r, w); break;
-    case ADL: r->a = add32(r, i.d); break;
+    case ADL: r->a = add32(r, i->d); break;
     case ADX: HALFWORD; r->x = add16(r, h); break;
     case SB: HALFWORD; r->a = subtract32(r, h); break;
     case SBW: FULLWORD; r->a = subtract32(r, w); break;
-    case SBL: r->a = subtract32(r, i.d); break;
+    case SBL: r->a = subtract32(r, i->d); break;
     case SBX: HALFWORD; r->x = subtract16(r, h); break;
     case CP: HALFWORD; subtract32(r, h); break;
     case CPW: FULLWORD; subtract32(r, w); break;
-    case CPL: subtract32(r, i.d); break;
+    case CPL: subtract32(r, i->d); break;
     case CPX: HALFWORD; subtract16(r, h); break;
 
     case NW: FULLWORD; load_a(r, r->a & w); break;
-    case NL: load_a(r, r->a & i.d); break;
+    case NL: load_a(r, r->a & i->d); break;
     case NX: HALFWORD; load_x(r, r->x & h); break;
-    case ML: r->a = apparent32(r, (int64_t)r->a * i.d); break;
+    case ML: r->a = apparent32(r, (int64_t)r->a * i->d); break;
     case MX: HALFWORD; r->x = apparent16(r, r->x * h); break;
     case DX:
         HALFWORD;
@@ -505,32 +503,32 @@ static inline int step(struct bay *bay)
             load_x(r, (int16_t)(r->x / h));
         break;
 
-    case LDY: HALFWORD; r->y = (uint16_t)h; break;
-    case LDZ: HALFWORD; r->z = (uint16_t)h; break;
-    case STY: PUT(r->y); break;
-    case STZ: PUT(r->z); break;
-    case ADY: HALFWORD; r->y = (uint16_t)(r->y + h); break;
-    case ADZ: HALFWORD; r->z = (uint16_t)(r->z + h); break;
-    case SBY: HALFWORD; r->y = (uint16_t)(r->y - h); break;
-    case SBZ: HALFWORD; r->z = (uint16_t)(r->z - h); break;
+    case LDY: HALFWORD; r->at[AT_Y] = (uint16_t)h; break;
+    case LDZ: HALFWORD; r->at[AT_Z] = (uint16_t)h; break;
+    case STY: PUT(r->at[AT_Y]); break;
+    case STZ: PUT(r->at[AT_Z]); break;
+    case ADY: HALFWORD; r->at[AT_Y] = (uint16_t)(r->at[AT_Y] + h); break;
+    case ADZ: HALFWORD; r->at[AT_Z] = (uint16_t)(r->at[AT_Z] + h); break;
+    case SBY: HALFWORD; r->at[AT_Y] = (uint16_t)(r->at[AT_Y] - h); break;
+    case SBZ: HALFWORD; r->at[AT_Z] = (uint16_t)(r->at[AT_Z] - h); break;
 
-    case BI: HALFWORD; next = (uint16_t)h; break;
-    case BLI: HALFWORD; r->z = next; next = (uint16_t)h; break;
-    case B: next = target; break;
-    case BL: r->z = next; next = target; break;
-    case BZ: if (r->zr) next = target; break;
-    case BNZ: if (!r->zr) next = target; break;
-    case BN: if (r->n) next = target; break;
-    case BNN: if (!r->n) next = target; break;
-    case BCA: if (r->ca) next = target; break;
-    case BOF: if (r->of) next = target; r->of = 0; break;
+    case BI: HALFWORD; r->at[AT_S] = (uint16_t)h; break;
+    case BLI: HALFWORD; r->at[AT_Z] = r->at[AT_S]; r->at[AT_S] = (uint16_t)h; break;
+    case B: r->at[AT_S] += i->d; break;
+    case BL: r->at[AT_Z] = r->at[AT_S]; r->at[AT_S] += i->d; break;
+    case BZ: if (r->zr) r->at[AT_S] += i->d; break;
+    case BNZ: if (!r->zr) r->at[AT_S] += i->d; break;
+    case BN: if (r->n) r->at[AT_S] += i->d; break;
+    case BNN: if (!r->n) r->at[AT_S] += i->d; break;
+    case BCA: if (r->ca) r->at[AT_S] += i->d; break;
+    case BOF: if (r->of) r->at[AT_S] += i->d; r->of = 0; break;
 
     case BITL:
-        if (!bit_instruction(r, (unsigned)i.d))
+        if (!bit_instruction(r, (unsigned)i->d))
             return 1;
         break;
     case BITX:
-        if (!bit_instruction(r, (unsigned)(i.d + r->x)))
+        if (!bit_instruction(r, (unsigned)(i->d + r->x)))
             return 1;
         break;
 
@@ -538,31 +536,31 @@ static inline int step(struct bay *bay)
     case SFM: r->fm = 1; break;
     case SIM: r->fm = 0; break;
     case HRK: return 3;
+    case UNDEFINED: return 1;
     default:
-        cause = string(bay, i.name, &next);
-        if (cause)
-            return cause;
+        if (!string(bay, r, i->name))
+            return 2;
         break;
     }
-    r->s = next;
     return 0;
 }
 
 /* Does steps until their number is the budget, or one stops. */
 static unsigned turn(struct bay *bay, unsigned budget)
 {
+    struct registers r = bay->r;
     unsigned steps = 0;
     if (bay->cause)
         return 0;
-    while (steps < budget) {
-        int cause = step(bay);
-        if (cause) {
-            bay->cause = cause;
-            bay->stop_address = bay->r.s;
+    for (; steps < budget; steps++) {
+        uint16_t s = r.at[AT_S];
+        bay->cause = step(bay, &r);
+        if (bay->cause) {
+            bay->stop_address = r.at[AT_S] = s;
             break;
         }
-        steps++;
     }
+    bay->r = r;
     return steps;
 }
 
@@ -617,15 +615,17 @@ static void read_job(const char *path, struct job *job, struct bay *bay)
     unsigned v[7];
     while (fgets(line, sizeof line, file)) {
         if (sscanf(line, "grant\t%7s\t%u\t%u", kind, &v[0], &v[1]) == 3) {
-            struct grant g = { !strcmp(kind, "write"), (uint16_t)v[0], (uint16_t)v[1] };
-            if (bay->grant_count == 6)
+            struct range range = { v[0], v[1] + 1 };
+            if (bay->readable.count == 6)
                 fail("more than six grants");
-            bay->grants[bay->grant_count++] = g;
+            bay->readable.list[bay->readable.count++] = range;
+            if (!strcmp(kind, "write"))
+                bay->writable.list[bay->writable.count++] = range;
         } else if (sscanf(line, "registers\t%u\t%u\t%u\t%u\t%u\t%u\t%u",
                 &v[0], &v[1], &v[2], &v[3], &v[4], &v[5], &v[6]) == 7) {
             struct registers r = {
-                .a = (int32_t)v[0], .b = v[1], .x = (int16_t)v[2], .y = (uint16_t)v[3],
-                .z = (uint16_t)v[4], .s = (uint16_t)v[5], .l = (uint16_t)v[6],
+                .a = (int32_t)v[0], .b = v[1], .x = (int16_t)v[2],
+                .at = { 0, (uint16_t)v[6], (uint16_t)v[5], (uint16_t)v[3], (uint16_t)v[4] },
             };
             job->registers = r;
         } else if (sscanf(line, "input\t%u\t%u", &v[0], &v[1]) == 2) {
@@ -683,7 +683,7 @@ int main(int count, char **arguments)
     const struct registers *r = &bay.r;
     printf("%llu %.0f %llu %u %u %u %u %u %u %u %d %d %d %d %d\n",
         steps, microseconds, (unsigned long long)checksum,
-        (unsigned)r->a, r->b, (unsigned)(uint16_t)r->x, (unsigned)r->y, (unsigned)r->z,
-        (unsigned)r->s, (unsigned)r->l, r->fm, r->n, r->zr, r->of, r->ca);
+        (unsigned)r->a, r->b, (unsigned)(uint16_t)r->x, (unsigned)r->at[AT_Y], (unsigned)r->at[AT_Z],
+        (unsigned)r->at[AT_S], (unsigned)r->at[AT_L], r->fm, r->n, r->zr, r->of, r->ca);
     return 0;
 }

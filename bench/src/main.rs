@@ -3,12 +3,13 @@
 use bench::compare;
 use bench::program::{bench_folder, Programs};
 use bench::speed;
-use std::path::PathBuf;
+use std::path::{Path, PathBuf};
 use std::process::ExitCode;
 
 const USAGE: &str = "usage:
   bench compare [SEED] [STEPS] [HISTORIES] [BOOKS] [--threads N] [--bin FOLDER]
-  bench speed [RUNS] [--bin FOLDER] [--data FOLDER]";
+  bench speed [RUNS] [--bin FOLDER] [--data FOLDER]
+  bench run BOOK IMAGE JOB RECORDS RUNS";
 
 /// What stands on the command line.
 struct Arguments {
@@ -49,7 +50,28 @@ impl Arguments {
     }
 }
 
+/// `bench run`, if that is asked for.
+fn run_job() -> Option<std::io::Result<()>> {
+    let words: Vec<String> = std::env::args().skip(1).collect();
+    match &words[..] {
+        [run, book, image, job, records, runs] if run == "run" => {
+            let files = [book, image, job, records].map(Path::new);
+            Some(speed::run_job(files, runs.parse().ok()?))
+        }
+        _ => None,
+    }
+}
+
 fn main() -> ExitCode {
+    if let Some(result) = run_job() {
+        return match result {
+            Ok(()) => ExitCode::SUCCESS,
+            Err(error) => {
+                eprintln!("bench: {error}");
+                ExitCode::FAILURE
+            }
+        };
+    }
     let Some(arguments) = Arguments::read() else {
         eprintln!("{USAGE}");
         return ExitCode::FAILURE;

@@ -1,5 +1,5 @@
-//! Measures steps a second: this machine, a plain interpreter in C, and the
-//! verified program `speed`.
+//! Measures steps a second, and processor instructions a step: this machine,
+//! a plain interpreter in C, and the verified program `speed`.
 
 use crate::book::Book;
 use crate::grants::{Grant, Kind};
@@ -7,16 +7,17 @@ use crate::hall::{Hall, Sealed};
 use crate::job::Job;
 use crate::program::{bench_folder, Programs, Scratch};
 use crate::store::Owned;
+use std::ffi::OsString;
 use std::fs;
 use std::io;
 use std::path::{Path, PathBuf};
-use std::process::Command;
+use std::process::{Command, Output};
 use std::time::Instant;
 
 const ROUNDS: usize = 5;
+/// Instructions are counted in runs of these lengths; what the longer takes more is steps alone.
+const COUNTED_RUNS: [u64; 2] = [2, 6];
 const JOB: &str = "undo.job";
-const OURS: &str = "independent, Rust";
-const PLAIN_C: &str = "plain, C";
 
 pub struct Settings {
     pub programs: Programs,
@@ -34,8 +35,9 @@ struct Sample {
     job_file: PathBuf,
 }
 
-/// What one machine did.
+/// What a machine did over one kind of store.
 struct Measured {
+    kind: String,
     steps: u64,
     microseconds: f64,
 }
@@ -46,81 +48,159 @@ impl Measured {
     }
 }
 
-/// What the runs came to, by which the machines are checked against each other.
-#[derive(PartialEq, Eq, Debug)]
-struct Outcome {
-    steps: u64,
-    checksum: u64,
-    registers: String,
+/// What runs a sample's job so many times.
+#[derive(Clone, Copy, PartialEq)]
+enum Machine {
+    Ours,
+    PlainC,
+    Verified,
+}
+
+impl Machine {
+    const ALL: [Machine; 3] = [Machine::Ours, Machine::PlainC, Machine::Verified];
+
+    fn name(self) -> &'static str {
+        match self {
+            Machine::Ours => "independent, Rust",
+            Machine::PlainC => "plain, C",
+            Machine::Verified => "verified",
+        }
+    }
+}
+
+/// The executables.
+struct Tools {
+    ours: PathBuf,
+    plain_c: PathBuf,
+    verified: PathBuf,
 }
 
 pub fn run(settings: &Settings) -> io::Result<bool> {
     settings.programs.check(&["speed"])?;
     let scratch = Scratch::new()?;
-    let plain_c = scratch.path("plain");
-    compile(&plain_c)?;
+    let tools = Tools {
+        ours: std::env::current_exe()?,
+        plain_c: scratch.path("plain"),
+        verified: settings.programs.path("speed").canonicalize()?,
+    };
+    compile(&tools.plain_c)?;
+    let own = own_grants(settings)?;
+    let three = code_and_all_else(&own.job)?;
+    let six = after_three_more(&three);
     let samples = [
         (
-            "one grant",
-            sample(settings, &scratch, "one.job", one_grant())?,
+            "three grants: the code to be read, and all that is before and after it",
+            sample(settings, &scratch, "three.job", three)?,
         ),
         (
-            "six grants, the hit in the last",
-            sample(settings, &scratch, "six.job", six_grants())?,
+            "the same after three grants that serve nothing",
+            sample(settings, &scratch, "six.job", six)?,
         ),
-        ("the sample's own five grants", own_grants(settings)?),
+        ("the sample's own five grants", own),
     ];
+    for (_, sample) in &samples {
+        tools.check_outcomes(sample)?;
+    }
     let mut best: Vec<Best> = samples.iter().map(|_| Best::default()).collect();
     for _ in 0..ROUNDS {
         for ((_, sample), best) in samples.iter().zip(&mut best) {
-            for (machine, measured) in measure(settings, sample, &plain_c)? {
-                best.take(machine, measured.steps_a_second());
+            for machine in Machine::ALL {
+                for measured in tools.measure(machine, sample, settings.runs)? {
+                    best.take(machine, &measured);
+                }
             }
+            best.check_steps()?;
         }
     }
     println!(
         "{JOB}, {} runs of its first record, the best of {ROUNDS} rounds",
         settings.runs
     );
-    for ((title, _), best) in samples.iter().zip(&best) {
+    let has_valgrind = Command::new("valgrind").arg("--version").output().is_ok();
+    for ((title, sample), best) in samples.iter().zip(&best) {
         best.report(title);
+        if has_valgrind {
+            println!("{:<40} {:>17}", "", "instructions/step");
+            for machine in Machine::ALL {
+                let count = tools.instructions_a_step(machine, sample)?;
+                let mean = if machine == Machine::Verified {
+                    ", mean of its stores"
+                } else {
+                    ""
+                };
+                println!("{:<40} {count:>17.1}", format!("{}{mean}", machine.name()));
+            }
+        }
+    }
+    if !has_valgrind {
+        println!("\nThere is no valgrind, so no instructions were counted.");
     }
     Ok(true)
 }
 
-/// The best steps a second of each machine, in the order in which they came.
+/// The best of each machine and kind of store, in the order in which they came.
 #[derive(Default)]
-struct Best(Vec<(String, f64)>);
+struct Best(Vec<(String, u64, f64)>);
 
 impl Best {
-    fn take(&mut self, machine: String, speed: f64) {
-        match self.0.iter_mut().find(|(other, _)| *other == machine) {
-            Some((_, best)) => *best = best.max(speed),
-            None => self.0.push((machine, speed)),
+    fn take(&mut self, machine: Machine, measured: &Measured) {
+        let name = match measured.kind.as_str() {
+            "" => machine.name().to_string(),
+            kind => format!("{}, {kind}", machine.name()),
+        };
+        let speed = measured.steps_a_second();
+        match self.0.iter_mut().find(|(other, ..)| *other == name) {
+            Some((_, _, best)) => *best = best.max(speed),
+            None => self.0.push((name, measured.steps, speed)),
+        }
+    }
+
+    /// All take the same steps.
+    fn check_steps(&self) -> io::Result<()> {
+        let (_, ours, _) = self.0[0];
+        match self.0.iter().find(|(_, steps, _)| *steps != ours) {
+            None => Ok(()),
+            Some((machine, steps, _)) => {
+                Err(invalid(format!("{machine}: {steps} steps, not {ours}")))
+            }
         }
     }
 
     fn report(&self, title: &str) {
         println!("\n{title}");
-        println!("{:<32} {:>14} {:>10}", "", "steps/second", "ratio");
-        let (_, ours) = self.0[0];
-        for (machine, speed) in &self.0 {
-            println!("{machine:<32} {speed:>14.0} {:>10.3}", speed / ours);
+        println!("{:<40} {:>14} {:>10}", "", "steps/second", "ratio");
+        let (_, _, ours) = self.0[0];
+        for (machine, _, speed) in &self.0 {
+            println!("{machine:<40} {speed:>14.0} {:>10.3}", speed / ours);
         }
     }
 }
 
-fn one_grant() -> Vec<Grant> {
-    vec![Grant::new(Kind::Write, 0, u16::MAX)]
+/// Three grants of the whole store: the one of the job that has its first instruction, to be
+/// read, and what is before and after it, to be written.
+fn code_and_all_else(job: &Job) -> io::Result<Vec<Grant>> {
+    let has_code = |grant: &&Grant| grant.kind == Kind::Read && grant.has(job.registers.s);
+    let code = *job
+        .grants
+        .iter()
+        .find(has_code)
+        .filter(|code| code.first > 6 && code.last < u16::MAX)
+        .ok_or_else(|| {
+            invalid(format!(
+                "{JOB}: no read grant within the store has its code"
+            ))
+        })?;
+    Ok(vec![
+        Grant::new(Kind::Write, 6, code.first - 1),
+        code,
+        Grant::new(Kind::Write, code.last + 1, u16::MAX),
+    ])
 }
 
-/// Five grants that serve no access, and then one that serves all.
-fn six_grants() -> Vec<Grant> {
-    let mut grants: Vec<Grant> = (0..5)
-        .map(|i| Grant::new(Kind::Write, 2 * i, 2 * i + 1))
-        .collect();
-    grants.push(Grant::new(Kind::Write, 10, u16::MAX));
-    grants
+/// Three grants that serve no access, and then these.
+fn after_three_more(grants: &[Grant]) -> Vec<Grant> {
+    let others = (0..3).map(|i| Grant::new(Kind::Write, 2 * i, 2 * i + 1));
+    others.chain(grants.iter().copied()).collect()
 }
 
 fn sample(
@@ -155,61 +235,153 @@ fn invalid(message: String) -> io::Error {
     io::Error::new(io::ErrorKind::InvalidData, message)
 }
 
-/// Measures each machine once, ours first, and checks that they agree.
-fn measure(
-    settings: &Settings,
-    sample: &Sample,
-    plain_c: &Path,
-) -> io::Result<Vec<(String, Measured)>> {
-    let (measured, outcome) = measure_ours(sample, settings.runs)?;
-    let mut all = vec![(OURS.to_string(), measured)];
-    let (measured, outcome_of_c) = measure_c(sample, settings.runs, plain_c)?;
-    if outcome_of_c != outcome {
-        return Err(invalid(format!("{outcome:?}, but in C {outcome_of_c:?}")));
-    }
-    all.push((PLAIN_C.to_string(), measured));
-    for (kind, measured) in measure_verified(settings, sample)? {
-        if measured.steps != outcome.steps {
-            return Err(invalid(format!("{kind}: {} steps", measured.steps)));
+impl Tools {
+    /// The program and its words, but the runs, and the folder in which it finds its files.
+    fn command<'a>(&'a self, machine: Machine, sample: &'a Sample) -> (Vec<OsString>, &'a Path) {
+        let program = match machine {
+            Machine::Ours => &self.ours,
+            Machine::PlainC => &self.plain_c,
+            Machine::Verified => &self.verified,
+        };
+        let mut words = vec![program.into()];
+        if machine == Machine::Ours {
+            words.push("run".into());
         }
-        all.push((format!("verified, {kind}"), measured));
+        words.extend([&sample.book, &sample.image, &sample.job_file].map(OsString::from));
+        if machine != Machine::Verified {
+            words.push((&sample.records).into());
+        }
+        // The job names its records relative to the folder that it is in.
+        (
+            words,
+            sample.book.parent().expect("the book is in a folder"),
+        )
     }
-    Ok(all)
+
+    fn output(
+        &self,
+        under: &[&str],
+        machine: Machine,
+        sample: &Sample,
+        runs: u64,
+    ) -> io::Result<Output> {
+        let (mut words, folder) = self.command(machine, sample);
+        words.splice(0..0, under.iter().map(OsString::from));
+        let output = Command::new(&words[0])
+            .args(&words[1..])
+            .arg(runs.to_string())
+            .current_dir(folder)
+            .output()?;
+        if !output.status.success() {
+            let error = String::from_utf8_lossy(&output.stderr);
+            return Err(invalid(format!("{}: {error}", machine.name())));
+        }
+        Ok(output)
+    }
+
+    fn measure(&self, machine: Machine, sample: &Sample, runs: u64) -> io::Result<Vec<Measured>> {
+        let output = self.output(&[], machine, sample, runs)?;
+        let printed = String::from_utf8_lossy(&output.stdout);
+        if machine == Machine::Verified {
+            return measured_of_verified(&printed, &String::from_utf8_lossy(&output.stderr));
+        }
+        let line = printed.trim();
+        let mut words = line.split(' ').map(str::parse);
+        match (words.next(), words.next()) {
+            (Some(Ok(steps)), Some(Ok(microseconds))) => Ok(vec![Measured {
+                kind: String::new(),
+                steps: steps as u64,
+                microseconds,
+            }]),
+            _ => Err(invalid(format!("{} printed {line}", machine.name()))),
+        }
+    }
+
+    /// One run of each of the first two: last registers and output bytes must be the same.
+    fn check_outcomes(&self, sample: &Sample) -> io::Result<()> {
+        let line = |machine| -> io::Result<String> {
+            let output = self.output(&[], machine, sample, 1)?;
+            Ok(String::from_utf8_lossy(&output.stdout).trim().to_string())
+        };
+        let (ours, in_c) = (line(Machine::Ours)?, line(Machine::PlainC)?);
+        if outcome(&ours).is_some() && outcome(&ours) == outcome(&in_c) {
+            Ok(())
+        } else {
+            Err(invalid(format!("{ours}, but in C {in_c}")))
+        }
+    }
+
+    /// By valgrind: what a longer run takes more than a shorter one, so that what goes before
+    /// the first step does not count.
+    fn instructions_a_step(&self, machine: Machine, sample: &Sample) -> io::Result<f64> {
+        let under = [
+            "valgrind",
+            "--tool=callgrind",
+            "--callgrind-out-file=/dev/null",
+        ];
+        let mut counts = Vec::new();
+        for runs in COUNTED_RUNS {
+            let output = self.output(&under, machine, sample, runs)?;
+            let printed = String::from_utf8_lossy(&output.stdout);
+            let error = String::from_utf8_lossy(&output.stderr);
+            let steps: u64 = match machine {
+                Machine::Verified => numbers_by_kind(&printed).iter().map(|(_, n)| n).sum(),
+                _ => numbers_by_kind(&printed).first().map_or(0, |(_, n)| *n),
+            };
+            let collected = error
+                .lines()
+                .find_map(|line| line.split_once("Collected :")?.1.trim().parse::<u64>().ok())
+                .ok_or_else(|| invalid(format!("valgrind: {error}")))?;
+            counts.push((collected as f64, steps as f64));
+        }
+        let [(short, few), (long, more)] = counts[..] else {
+            unreachable!("two lengths are counted");
+        };
+        Ok((long - short) / (more - few))
+    }
 }
 
-fn measure_ours(sample: &Sample, runs: u64) -> io::Result<(Measured, Outcome)> {
-    let book = Book::read(&fs::read(&sample.book)?)
-        .map_err(|refusal| invalid(format!("{}: {refusal}", sample.book.display())))?;
-    let image = Owned::from_image(&fs::read(&sample.image)?)
-        .ok_or_else(|| invalid(format!("{}: another size", sample.image.display())))?;
-    let records = fs::read(&sample.records)?;
-    let record = records
-        .get(..sample.job.input.length())
-        .ok_or_else(|| invalid(format!("{}: no record", sample.records.display())))?;
+/// All that a line STEPS MICROSECONDS CHECKSUM REGISTERS says, but the time.
+fn outcome(line: &str) -> Option<(&str, &str)> {
+    let mut words = line.splitn(3, ' ');
+    let steps = words.next()?;
+    words.next()?;
+    Some((steps, words.next()?))
+}
 
-    let mut hall = Hall::new(image, &book);
-    let bay = prepare(&mut hall, &sample.job, record)
-        .map_err(|refusal| invalid(format!("{}: {refusal}", sample.job_file.display())))?;
+/// `bench run BOOK IMAGE JOB RECORDS RUNS`: prints STEPS MICROSECONDS CHECKSUM REGISTERS, as
+/// plain.c does.
+pub fn run_job(files: [&Path; 4], runs: u64) -> io::Result<()> {
+    let [book, image, job_file, records] = files;
+    let refused = |path: &Path, what: String| invalid(format!("{}: {what}", path.display()));
+    let job = Job::read(&fs::read_to_string(job_file)?).map_err(|line| refused(job_file, line))?;
+    let read = Book::read(&fs::read(book)?);
+    let book = read.map_err(|refusal| refused(book, refusal.to_string()))?;
+    let store = Owned::from_image(&fs::read(image)?)
+        .ok_or_else(|| refused(image, "another size".into()))?;
+    let records_read = fs::read(records)?;
+    let record = records_read
+        .get(..job.input.length())
+        .ok_or_else(|| refused(records, "no record".into()))?;
+
+    let mut hall = Hall::new(store, &book);
+    let bay = prepare(&mut hall, &job, record)
+        .map_err(|refusal| refused(job_file, refusal.to_string()))?;
     let begin = Instant::now();
-    let steps = run_job(&mut hall, &bay, &sample.job, runs);
+    let steps = run_turns(&mut hall, &bay, &job, runs);
     let microseconds = begin.elapsed().as_secs_f64() * 1e6;
 
-    let output = sample.job.output;
-    let refused = |refusal| invalid(format!("{refusal}"));
+    let output = job.output;
+    let refusal = |refusal| invalid(format!("{refusal}"));
     let bytes = hall
         .copy(&bay, output.address, output.length())
-        .map_err(refused)?;
-    let (registers, _) = hall.look(&bay).map_err(refused)?;
-    let outcome = Outcome {
-        steps,
-        checksum: checksum(&bytes),
-        registers: registers.to_string(),
-    };
-    let measured = Measured {
-        steps,
-        microseconds,
-    };
-    Ok((measured, outcome))
+        .map_err(refusal)?;
+    let (registers, _) = hall.look(&bay).map_err(refusal)?;
+    let checksum = bytes.iter().fold(0, |sum: u64, &byte| {
+        sum.wrapping_mul(31).wrapping_add(byte.into())
+    });
+    println!("{steps} {microseconds:.0} {checksum} {registers}");
+    Ok(())
 }
 
 fn prepare(
@@ -225,7 +397,7 @@ fn prepare(
     hall.seal(bay).map_err(|(refusal, _)| refusal)
 }
 
-fn run_job(hall: &mut Hall<Owned>, bay: &Sealed, job: &Job, runs: u64) -> u64 {
+fn run_turns(hall: &mut Hall<Owned>, bay: &Sealed, job: &Job, runs: u64) -> u64 {
     let mut steps = 0;
     for _ in 0..runs {
         hall.set(bay, job.registers).expect("the bay is sealed");
@@ -235,12 +407,6 @@ fn run_job(hall: &mut Hall<Owned>, bay: &Sealed, job: &Job, runs: u64) -> u64 {
         }
     }
     steps
-}
-
-fn checksum(bytes: &[u8]) -> u64 {
-    bytes.iter().fold(0, |sum: u64, &byte| {
-        sum.wrapping_mul(31).wrapping_add(byte.into())
-    })
 }
 
 fn compile(executable: &Path) -> io::Result<()> {
@@ -256,66 +422,24 @@ fn compile(executable: &Path) -> io::Result<()> {
     }
 }
 
-fn measure_c(sample: &Sample, runs: u64, plain_c: &Path) -> io::Result<(Measured, Outcome)> {
-    let output = Command::new(plain_c)
-        .args([
-            &sample.book,
-            &sample.image,
-            &sample.job_file,
-            &sample.records,
-        ])
-        .arg(runs.to_string())
-        .output()?;
-    let text = String::from_utf8_lossy(&output.stdout).into_owned();
-    parse_c(text.trim()).ok_or_else(|| {
-        let error = String::from_utf8_lossy(&output.stderr);
-        invalid(format!("plain.c printed {text}{error}"))
-    })
-}
-
-/// STEPS MICROSECONDS CHECKSUM REGISTERS
-fn parse_c(line: &str) -> Option<(Measured, Outcome)> {
-    let mut words = line.splitn(4, ' ');
-    let steps = words.next()?.parse().ok()?;
-    let microseconds = words.next()?.parse().ok()?;
-    let outcome = Outcome {
-        steps,
-        checksum: words.next()?.parse().ok()?,
-        registers: words.next()?.to_string(),
-    };
-    let measured = Measured {
-        steps,
-        microseconds,
-    };
-    Some((measured, outcome))
-}
-
 /// What `speed` prints for each kind of store: `KIND N steps` on standard
 /// output, and `KIND: N us, ..` on standard error.
-fn measure_verified(settings: &Settings, sample: &Sample) -> io::Result<Vec<(String, Measured)>> {
-    let runs = PathBuf::from(settings.runs.to_string());
-    let arguments = [&*sample.book, &sample.image, &sample.job_file, &runs];
-    // The job names its records relative to the folder that it is in.
-    let folder = sample.book.parent().expect("the book is in a folder");
-    let printed = settings.programs.run_in(folder, "speed", &arguments, "")?;
-    let steps = numbers_by_kind(&printed.output);
-    let times = numbers_by_kind(&printed.error);
-    let measured: Vec<_> = steps
+fn measured_of_verified(printed: &str, error: &str) -> io::Result<Vec<Measured>> {
+    let times = numbers_by_kind(error);
+    let measured: Vec<_> = numbers_by_kind(printed)
         .into_iter()
         .filter_map(|(kind, steps)| {
             let (_, microseconds) = times.iter().find(|(timed, _)| *timed == kind)?;
             let microseconds = *microseconds as f64;
-            Some((
+            Some(Measured {
                 kind,
-                Measured {
-                    steps,
-                    microseconds,
-                },
-            ))
+                steps,
+                microseconds,
+            })
         })
         .collect();
-    if !printed.succeeded || measured.is_empty() || measured.len() != times.len() {
-        return Err(invalid(format!("speed: {}", printed.error)));
+    if measured.is_empty() || measured.len() != times.len() {
+        return Err(invalid(format!("speed: {error}")));
     }
     Ok(measured)
 }

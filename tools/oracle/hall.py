@@ -277,7 +277,10 @@ def refusal(call, *arguments):
 
 def self_check():
     book = machine.example_book()  # LD 17, B 1
-    image = bytes(range(256)) * 256
+    # LD A2 with M 2, then B 0 and HRK, at 300; a word that no book has at 306
+    image = bytearray(bytes(range(256)) * 256)
+    image[300:308] = bytes.fromhex("4500040012011203")
+    image = bytes(image)
 
     # opening, and the stages
     hall = Hall(image, book)
@@ -345,22 +348,22 @@ def self_check():
     one = hall.open(1)
     assert hall.look(one) == (Registers(), None) and hall.bays[1].grants == []
     hall.grant(one, True, 100, 107)
+    hall.grant(one, False, 300, 307)
 
-    # turns and stops: LD A2 with M 2, then B 0 and HRK
-    hall.load(one, 100, bytes.fromhex("450004001201"))
-    hall.set(one, Registers(s=100, y=20))
+    # turns and stops
+    hall.set(one, Registers(s=300, y=20))
     sealed = hall.seal(one)
-    stopped = 0, Stop(2, 100, 3, "read", 20)
+    stopped = 0, Stop(2, 300, 3, "read", 20)
     assert hall.turn(sealed, 0) == (0, None) and hall.turn(sealed, 1) == stopped
     assert hall.turn(sealed, 0) == hall.turn(sealed, 9) == stopped
     hall.load(sealed, 106, b"\x01\x02")
     assert refusal(hall.load, sealed, 108, b"z") == 7
-    assert hall.look(sealed) == (Registers(s=100, y=20), Stop(2, 100, 3, "read", 20))
-    hall.set(sealed, Registers(s=100, y=106, of=1))
-    assert hall.look(sealed) == (Registers(s=100, y=106, of=1), None)
+    assert hall.look(sealed) == (Registers(s=300, y=20), Stop(2, 300, 3, "read", 20))
+    hall.set(sealed, Registers(s=300, y=106, of=1))
+    assert hall.look(sealed) == (Registers(s=300, y=106, of=1), None)
     assert hall.turn(sealed, 2) == (2, None)
-    assert hall.turn(sealed, 0) == (0, None) and hall.turn(sealed, 2) == (0, Stop(3, 104))
-    assert hall.look(sealed) == (Registers(a=0x0102, s=104, y=106, of=1), Stop(3, 104))
+    assert hall.turn(sealed, 0) == (0, None) and hall.turn(sealed, 2) == (0, Stop(3, 304))
+    assert hall.look(sealed) == (Registers(a=0x0102, s=304, y=106, of=1), Stop(3, 304))
     assert hall.look(two) == (Registers(), None)
     assert refusal(hall.grant, two, False, 107, 107) == 6  # a stopped bay's grants count
     hall.close(sealed)
@@ -375,12 +378,13 @@ open 1
 open 1
 turn 1 5
 grant 1 write 200 203
+grant 1 read 306 307
 load 1 200 -
 load 1 201 0Aff
 load 1 203 0102
 copy 1 200 4
 copy 1 0 0
-set 1 4294967295 1 2 3 4 200 6 0 1 0 1 0
+set 1 4294967295 1 2 3 4 306 6 0 1 0 1 0
 look 1
 seal 1
 grant 1 read 0 0
@@ -390,11 +394,11 @@ look 1
 close 1
 look 1
 """
-    assert answers(book, bytes(65536), text) == [
-        "refused 1", "done", "refused 3", "no handle", "done", "done", "done", "refused 7",
-        "bytes 000AFF00", "bytes -", "done",
-        "state 4294967295 1 2 3 4 200 6 0 1 0 1 0 running", "done", "no handle", "spent 0",
-        "stopped 0 1 200", "state 4294967295 1 2 3 4 200 6 0 1 0 1 0 stopped 1 200", "done",
+    assert answers(book, bytes(204) + image[204:], text) == [
+        "refused 1", "done", "refused 3", "no handle", "done", "done", "done", "done",
+        "refused 7", "bytes 000AFF00", "bytes -", "done",
+        "state 4294967295 1 2 3 4 306 6 0 1 0 1 0 running", "done", "no handle", "spent 0",
+        "stopped 0 1 306", "state 4294967295 1 2 3 4 306 6 0 1 0 1 0 stopped 1 306", "done",
         "no handle"]
     assert answers(book, image, "") == answers(book, image, "  \n# a comment\n") == []
 

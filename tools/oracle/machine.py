@@ -923,15 +923,20 @@ def full_book():
 
 
 def obeyed(book, words, registers, items=(), steps=1, grants=None):
-    """Runs the words at the registers' s; items are (address, length, value)."""
+    """Runs the words at the registers' s; items are (address, length, value).
+
+    Where no grants are given, the words may be read, and all else written."""
     store = bytearray(STORE_SIZE)
+    first = registers.s & 0xFFFE
     for i, word in enumerate(words):
-        at = (registers.s & 0xFFFE) + 2 * i
+        at = first + 2 * i
         store[at:at + 2] = word.to_bytes(2, "big")
     for address, length, value in items:
         store[address:address + length] = cut(value, 8 * length).to_bytes(length, "big")
     if grants is None:
-        grants = [Grant(True, 0, 65535)]
+        past = first + 2 * len(words)
+        grants = [Grant(False, first, past - 1), Grant(True, past, 65535)]
+        grants += [Grant(True, 0, first - 1)] * (first > 0)
     done, stop, after = turn(book, grants, store, registers, steps)
     return done, stop, after, store
 

@@ -16,6 +16,7 @@ from machine import Grant, Registers, cut, put_together
 HERE = os.path.dirname(os.path.abspath(__file__))
 EDGE16 = [0, 1, -1, 32767, -32768]
 EDGE32 = [0, 1, -1, 2147483647, -2147483648]
+UNDEFINED = 0x1203  # in every book
 EVERY_BASE = ("LDB", "LDX", "STW", "BLI", "ST")
 STORES = ("STB", "ST", "STW", "STX", "STY", "STZ")
 A_PLACES = (
@@ -51,7 +52,8 @@ class Table:
         """words stand at s (aligned); items are (address, bytes or hex text).
 
         Contents may be negative, and are cut to their registers. The label
-        gets a number of its own."""
+        gets a number of its own. Where no grants are given, the words that are
+        obeyed may be read, and all else written."""
         number = self.labels[label] = self.labels.get(label, 0) + 1
         r = Registers()
         contents.setdefault("s", 1000)
@@ -67,8 +69,6 @@ class Table:
             if isinstance(content, str):
                 content = bytes.fromhex(content)
             pieces.append((address, content))
-        if grants is None:
-            grants = ["w:0:65535"]
         self.case(f"{label}-{number}", r, grants, pieces, budget)
 
     def case(self, label, r, grants, pieces, budget):
@@ -80,6 +80,8 @@ class Table:
                 assert address + i not in written, label
                 written.add(address + i)
                 store[address + i] = byte
+        if grants is None:
+            grants = code_apart(self.book, store, r, budget)
         granted = parsed_grants(grants)
         before = bytes(store)
         steps, stop, after = machine.turn(self.book, granted, store, r, budget)
@@ -113,6 +115,42 @@ class Table:
         except machine.PutRefused as why:
             answer = f"refused {why.number}"
         self.note("put", f"put {name} {fmt} {m} {d}", f"put {answer}")
+
+
+def code_apart(book, store, registers, budget):
+    """Grants of the whole store: reads of the words that a turn obeys, writes of the rest.
+
+    A turn that writes a word which it obeys has one write grant over all. Words
+    with few bytes between them that are not written go under one read grant."""
+    everything = [Grant(False, 0, 65535), Grant(True, 0, 65535)]
+    store, r = bytearray(store), registers
+    obeyed, written = set(), set()
+    for _ in range(max(budget, 1)):
+        obeyed |= {r.s & 0xFFFE, r.s | 1}
+        try:
+            r, writes = machine.step(book, everything, store, r)
+        except machine.Stopped:
+            break
+        for address, byte in writes:
+            store[address] = byte
+            written.add(address)
+    if obeyed & written:
+        return ["w:0:65535"]
+    reads = []
+    for byte in sorted(obeyed):
+        if reads and byte <= reads[-1][1] + 9 and not written & set(range(reads[-1][1], byte)):
+            reads[-1][1] = byte
+        else:
+            reads.append([byte, byte])
+    texts, at = [], 0
+    for first, last in reads:
+        if at < first:
+            texts.append(f"w:{at}:{first - 1}")
+        texts.append(f"r:{first}:{last}")
+        at = last + 1
+    if at < machine.STORE_SIZE:
+        texts.append(f"w:{at}:65535")
+    return texts
 
 
 def parsed_grants(texts):
@@ -389,8 +427,9 @@ def formats(t):
     t.run("LD-own-word", [t.word("LD", "A1", 0, 100)], s=200)
     t.run("LD-own-word", [t.word("LD", "A2", 1, 0), 0x1234], s=200)
     t.run("LD-own-pointer", [t.word("LD", "A3", 0, 50)], s=100, x=1)
-    t.run("ST-own-word", [t.word("ST", "A1", 0, 100)], s=200, a=0x1201, budget=3)
-    t.run("STX-next-word", [t.word("STX", "A2", 1, 0), 0x0000], s=200, x=0x2007, budget=3)
+    t.run("ST-own-word", [t.word("ST", "A1", 0, 100), UNDEFINED], s=200, a=0x1201, budget=3)
+    t.run("STX-next-word", [t.word("STX", "A2", 1, 0), UNDEFINED, UNDEFINED], s=200, x=0x2007,
+          budget=3)
     # x is both index and destination, z both base and destination
     t.run("LDX-own-index", [t.word("LDX", "A5", 2, 0)], [(2006, "1234")], y=2000, x=3)
     t.run("LDX-own-index", [t.word("LDX", "A3", 0, 4)], [(8, half(2000)), (1998, "8234")], x=-1)
@@ -487,7 +526,7 @@ def refusals(t):
               ["r:65534:65535", "r:0:3"], s=s, a=1, budget=5)
         t.run("LDL-fetch-wraps", [t.word("LDL", d=9)], [(0, "2107"), (2, "1201")],
               ["r:65534:65535"], s=s, a=1, budget=5)
-    t.run("undefined-fetch-first", [0x0000], (), ["r:1000:1000"])
+    t.run("undefined-fetch-first", [UNDEFINED], (), ["r:1000:1000"])
     t.run("HRK-fetch-first", [t.word("HRK")], (), ["r:1001:1001"])
     t.run("LD-fetch-first", [t.word("LD", "A1", 0, 0)], (), ["r:1000:1000"], fm=1)
     t.run("MBS-fetch-first", [t.word("MBS")], (), ["r:1000:1000"])
@@ -591,8 +630,8 @@ def modes(t):
     numbers = set(t.book.a.values())
     undefined = [n << 10 | 0x155 for n in range(16, 64) if n not in numbers]
     undefined += [n << 8 | 5 for n in (16, 17, 18, 19, 23, 24, 27, 31, 38, 39, 44, 47, 48, 55, 63)]
-    undefined += [0x0000, 0x0001, 0x03FF, 0x0C00, 0x0FFF, 0x1203, 0x1702, 0x2701, 0x27C1,
-                  0x3701, 0x12FF, 0x2741, 0x277F, 0x3740]
+    undefined += [0x0001, 0x03FF, 0x0C00, 0x0FFF, 0x1203, 0x1702, 0x2701, 0x27C1,
+                  0x3701, 0x12FF, 0x2741, 0x277F, 0x3740, 0x1204]
     for word in undefined:
         assert machine.reading(t.book, word) == machine.UNDEFINED
         t.run("undefined-word", [word], (), ["r:1000:1001"], fm=word & 1, a=2, n=1)
@@ -672,13 +711,13 @@ def strings(t):
                   [HEAD, "r:1990:2001", f"w:2990:{3000 + size - 1 - size * last}"], y=3000,
                   z=2000, x=-5, budget=9)
         # its own instruction is overwritten, and the next step obeys the new word
-        t.run(f"{name}-own-word", words[name], [(2000, "12011201")], y=998, z=1998, x=3, budget=9)
-        t.run(f"{name}-own-word", words[name], [(2000, "2105220622072308")], y=1000, z=2000,
-              x=2, budget=9)
-        t.run(f"{name}-own-word", words[name], [(1998, "2740274027402740")], y=1001, z=2001,
-              x=-3, budget=9)
-        t.run(f"{name}-next-word", words[name], [(2000, "21052106")], y=1002, z=2000, x=2,
+        code = words[name] + [UNDEFINED]
+        t.run(f"{name}-own-word", code, [(2000, "12011201")], y=998, z=1998, x=3, budget=9)
+        t.run(f"{name}-own-word", code, [(2000, "2105220622072308")], y=1000, z=2000, x=2,
               budget=9)
+        t.run(f"{name}-own-word", code, [(1998, "2740274027402740")], y=1001, z=2001, x=-3,
+              budget=9)
+        t.run(f"{name}-next-word", code, [(2000, "21052106")], y=1002, z=2000, x=2, budget=9)
     for bytes_ in ("r:2000:2000", "r:2001:2001"):
         t.run("MHS-half-read", words["MHS"], (), [HEAD, bytes_, "w:3000:3001"], y=3001, z=2001,
               x=1)
@@ -809,7 +848,7 @@ def turns(t):
     for budget in (0, 1, 2, 3, 4, 65535):
         t.run("HRK-budget", program, (), ["r:1000:1007", "w:200:200"], budget=budget)
         t.run("HRK-budget-at-once", [t.word("HRK")], budget=budget, a=5)
-        t.run("undefined-budget", [t.word("LDL", d=0), 0x0000], budget=budget, a=5)
+        t.run("undefined-budget", [t.word("LDL", d=0), UNDEFINED], budget=budget, a=5)
         t.run("STB-budget-refused", program, (), ["r:1000:1007"], budget=budget)
         t.run("SFM-budget", [t.word("SFM"), t.word("LDL", d=1), t.word("LD", "A1", 0, 0)],
               budget=budget)
@@ -820,7 +859,7 @@ def turns(t):
               ["r:1000:1003", "r:2000:2002", "w:3000:3002"], y=3000, z=2000, x=3,
               budget=budget)
     for budget in (0, 1, 9):
-        t.run("undefined-empty-store", budget=budget, a=1)
+        t.run("undefined-at-once", [UNDEFINED], budget=budget, a=1)
         t.run("undefined-no-grant", (), (), [], budget=budget, s=65535)
     t.run("B-loop", [t.word("B", "B", 0, -1)], budget=65535)
     t.run("B-loop", [t.word("B", "B", 0, -1)], budget=1000)
@@ -893,18 +932,21 @@ def at_random(t, count, seed):
         return rng.choice([rng.choice(EDGE32), small(), rng.getrandbits(32),
                            rng.choice([32767, 32768, -32768, -32769, 65535, 65536])])
 
+    # the words stand from 1024 on; one set in twenty has the first of them under a write grant
     grant_sets = [
-        ["w:0:65535"],
-        ["w:0:65535"],
-        ["r:0:1023", "w:1024:4000"],
+        None,
+        None,
+        ["r:0:1060", "w:1061:4000"],
         ["r:0:1055", "w:1900:4000", "w:65000:65535"],
         ["r:0:1023", "r:1024:1055", "w:1980:2400"],
         ["r:0:1023", "r:1024:1055", "w:2000:2099", "r:2100:2299"],
         ["w:0:511", "r:512:1055", "w:1990:2004", "w:2006:2150", "r:2151:2400"],
         ["r:0:1055", "r:100:2400", "w:2401:2403", "w:65530:65535"],
-        ["w:0:2049", "r:2050:2500", "w:65000:65535"],
-        ["w:0:1023", "w:1024:1029", "r:1030:1060", "r:1990:2600", "r:60000:65535"],
+        ["w:0:1023", "r:1024:1060", "w:1061:2049", "r:2050:2500", "w:65000:65535"],
+        ["w:0:1023", "r:1024:1029", "r:1030:1060", "r:1990:2600", "r:60000:65535"],
     ]
+    grant_sets += grant_sets[:-1]
+    grant_sets.append(["w:0:1023", "w:1024:1029", "r:1030:1060", "r:1990:2600", "r:60000:65535"])
     for _ in range(count):
         words = [word() for _ in range(rng.choice([2, 4, 8, 12]))]
         low = b"".join(half(rng.choice([base(), base(), small()])) for _ in range(16))
@@ -912,7 +954,7 @@ def at_random(t, count, seed):
                        for _ in range(48))
         first = rng.choice([0, 16, 40, 96])
         at = rng.choice([0, 0, 0, 1])
-        words += [t.word("B", "B", 0, -1 - len(words))]
+        words += [t.word("B", "B", 0, -1 - len(words))] + [UNDEFINED] * 4
         contents = dict(a=wide(), b=wide(), x=small(), y=base(), z=base(), l=base(),
                         s=1024 + at)
         for mark in ("n", "zr", "of", "ca"):
@@ -921,7 +963,7 @@ def at_random(t, count, seed):
         first_name = machine.reading(t.book, words[0])
         label = first_name.name if isinstance(first_name, machine.Reading) else "undefined"
         t.run(f"{label}-random", words,
-              [(first, low), (1996, middle), (2200, middle[::-1])],
+              [(first, low), (1004, half(UNDEFINED) * 10), (1996, middle), (2200, middle[::-1])],
               rng.choice(grant_sets), rng.choice([1, 2, 3, 5, 10, 30]), **contents)
 
 

@@ -5,12 +5,11 @@
 Reads shore.book, shore.lst, calibrate.job, undo.job and smooth.job in
 CRATES/recover/data. Writes there shore.img, counts.rec, heights.rec and
 smooth.rec anew, and beside it args and stdout, what `recover` is given and must
-print. Copies the sample's small files to the other programs that read them.
-Prints what the runs took.
+print. Prints what the runs took. tools/sample-data copies the files to the other
+programs that read them.
 """
 
 import os
-import shutil
 import sys
 
 import machine
@@ -19,11 +18,6 @@ CRATES = sys.argv[1] if len(sys.argv) > 1 else os.path.join(
     os.path.dirname(os.path.abspath(__file__)), "..", "..", "crates")
 DATA = os.path.join(CRATES, "recover", "data")
 JOBS = ("calibrate.job", "undo.job", "smooth.job")
-COPIES = {
-    "assemble": ("shore.book", "shore.lst"),
-    "cases": ("shore.book",),
-    "demo": ("shore.book", "shore.lst", "calibrate.job", "undo.job", "counts.rec"),
-}
 
 
 def path(name):
@@ -115,10 +109,6 @@ def main():
     wrong = [c for c in counts if half_away(height(c) / 1.625) + 2048 != c]
     print(f"a division by 1.625 and rounding gets {len(wrong)} of {len(counts)} wrong")
     print(f"  the lowest: {min(wrong)}, the highest: {max(wrong)}")
-
-    for crate, names in COPIES.items():
-        for name in names:
-            shutil.copyfile(path(name), os.path.join(CRATES, crate, "data", name))
 
 
 main()

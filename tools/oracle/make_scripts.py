@@ -2,8 +2,9 @@
 
     python3 make_scripts.py [CRATES]    CRATES is ../../crates unless given
 
-Writes CRATES/calls/stdin, stdout and args, and copies the book and the image of
-the sample to CRATES/calls/data. One history over one store: a part written by
+Writes CRATES/calls/stdin, stdout and args, and CRATES/calls/data/script.img: the
+sample's image, with programs beside it that nobody loads, so that bays have
+what they obey under read grants. One history over one store: a part written by
 hand, whose answers stand beside the calls and are compared with those of
 hall.py; the sample's three jobs in rotation; histories at random, with a fixed
 seed; a second part by hand that clears the whole store; a last history over
@@ -13,7 +14,6 @@ had each answer.
 
 import os
 import random
-import shutil
 import sys
 from collections import Counter
 
@@ -46,6 +46,7 @@ class Asked:
         self.counts = Counter()
         self.stops = Counter()
         self.steps = 0
+        self.cleared = set()  # all bytes that some bay could write
 
     def remark(self, text=""):
         self.lines.append(f"# {text}" if text else "")
@@ -69,6 +70,9 @@ class Asked:
             self.steps += int(answer.split()[1])
             if kind == "stopped":
                 self.note_stop(bay.stop, standing, line.split()[2])
+        elif call == "grant" and line.split()[2] == "write":
+            first, last = (int(word) for word in line.split()[3:])
+            self.cleared |= set(range(first, last + 1))
         self.counts[call, stage, kind] += 1
         return answer
 
@@ -80,16 +84,13 @@ class Asked:
             name = f"standing, budget {'0' if budget == '0' else 'above 0'}"
         self.stops[name] += 1
 
-    def word(self, name, fmt="L", m=0, d=0):
-        return machine.put_together(self.book, name, fmt, m, d).to_bytes(2, "big")
-
 
 # ---------------------------------------------------------------- by hand
 #
 # Each call with its answer. Instructions in braces become the bytes of their
-# words, and are repeated in a comment. All bytes that a bay could write were
-# closed before the second part, and nobody could write the sample's: the store
-# is the image again.
+# words, and are repeated in a comment. A line `image` says what the image has
+# at an address. All bays are closed before the second part: the store is the
+# image again, but zero where some bay could write.
 
 FIRST_PART = """
 # opening: only 1 to 8, and only a free one
@@ -290,35 +291,41 @@ turn 5 1 => stopped 0 2 0 1 read 0
 close 5 => done
 look 5 => no handle
 
-# ---- stops. Bay 3 has code and data, bay 4 is the next after its data
+# ---- stops. Bay 3 has code, to be read, and data; bay 4 is the next after its data
+image 8192 {LDL L 0 7; HRK L 0 0; BITL L 0 16; SFM L 0 0; LD A2 0 0}
+image 8202 1203
+image 8204 {LD A4 0 2; LDW A2 2 0; LDW A2 3 0; LDL L 0 255; ST A2 2 0; MHS L 0 0}
+image 8216 {SBL L 0 1; B B 0 -2; ADL L 0 1; B B 0 -2}
+image 8254 {LDL L 0 3}
 open 3 => done
-grant 3 write 8192 8255 => done
+grant 3 read 8192 8255 => done
 grant 3 write 8320 8351 => done
 grant 3 read 256 511 => done
 open 4 => done
 grant 4 read 256 511 => done
 grant 4 write 8352 8383 => done
 load 4 8352 99887766 => done
-set 3 0 0 0 0 0 8192 0 0 0 0 0 0 => done
+set 3 0 0 0 0 0 8202 0 0 0 0 0 0 => done
 turn 3 1 => no handle
 seal 3 => done
 
 # cause 1, and a stop that stands, whatever the budget
-turn 3 5 => stopped 0 1 8192
-look 3 => state 0 0 0 0 0 8192 0 0 0 0 0 0 stopped 1 8192
-turn 3 0 => stopped 0 1 8192
-turn 3 1 => stopped 0 1 8192
-turn 3 65535 => stopped 0 1 8192
+turn 3 5 => stopped 0 1 8202
+look 3 => state 0 0 0 0 0 8202 0 0 0 0 0 0 stopped 1 8202
+turn 3 0 => stopped 0 1 8202
+turn 3 1 => stopped 0 1 8202
+turn 3 65535 => stopped 0 1 8202
 
 # a load under it is done, or refused, and lifts nothing
-load 3 8192 {LDL L 0 7; HRK L 0 0} => done
-turn 3 1 => stopped 0 1 8192
+load 3 8320 0102 => done
+turn 3 1 => stopped 0 1 8202
 load 3 8256 00 => refused 7
+load 3 8202 2007 => refused 7
 load 3 8192 - => done
 copy 3 8192 4 => bytes 20071201
 copy 3 8256 1 => refused 7
-turn 3 0 => stopped 0 1 8192
-look 3 => state 0 0 0 0 0 8192 0 0 0 0 0 0 stopped 1 8192
+turn 3 0 => stopped 0 1 8202
+look 3 => state 0 0 0 0 0 8202 0 0 0 0 0 0 stopped 1 8202
 
 # set lifts it
 set 3 0 0 0 0 0 8192 0 0 0 0 0 0 => done
@@ -337,17 +344,15 @@ turn 3 9 => stopped 1 3 8194
 look 3 => state 7 0 0 0 0 8194 0 0 0 0 1 1 stopped 3 8194
 
 # cause 1 of a control byte
-load 3 8192 {BITL L 0 16} => done
-set 3 0 0 0 0 0 8192 0 0 0 0 0 0 => done
-turn 3 1 => stopped 0 1 8192
+set 3 0 0 0 0 0 8196 0 0 0 0 0 0 => done
+turn 3 1 => stopped 0 1 8196
 
 # cause 4
-load 3 8192 {SFM L 0 0; LD A2 0 0} => done
-set 3 0 0 0 0 0 8192 8320 0 0 0 0 0 => done
-turn 3 9 => stopped 1 4 8194
-look 3 => state 0 0 0 0 0 8194 8320 1 0 0 0 0 stopped 4 8194
-set 3 0 0 0 0 0 8194 0 1 0 0 0 0 => done
-turn 3 9 => stopped 0 4 8194
+set 3 0 0 0 0 0 8198 8320 0 0 0 0 0 => done
+turn 3 9 => stopped 1 4 8200
+look 3 => state 0 0 0 0 0 8200 8320 1 0 0 0 0 stopped 4 8200
+set 3 0 0 0 0 0 8200 0 1 0 0 0 0 => done
+turn 3 9 => stopped 0 4 8200
 
 # cause 2 at the fetch: elsewhere, of an odd address, past the end of a grant
 set 3 0 0 0 0 0 100 0 0 0 0 0 0 => done
@@ -359,7 +364,6 @@ turn 3 2 => stopped 0 2 100 1 read 100
 look 3 => state 1 2 3 4 5 100 7 1 1 1 1 1 stopped 2 100 1 read 100
 set 3 0 0 0 0 0 65535 0 0 0 0 0 0 => done
 turn 3 2 => stopped 0 2 65535 1 read 65534
-load 3 8254 {LDL L 0 3} => done
 set 3 0 0 0 0 0 8255 0 0 0 0 0 0 => done
 turn 3 2 => stopped 1 2 8257 1 read 8256
 look 3 => state 3 0 0 0 0 8257 0 0 0 0 0 0 stopped 2 8257 1 read 8256
@@ -367,74 +371,73 @@ set 3 0 0 0 0 0 8352 0 0 0 0 0 0 => done
 turn 3 2 => stopped 0 2 8352 1 read 8352
 
 # cause 2 at the pointer, then at the operand that it leads to
-load 3 8192 {LD A4 0 2} => done
-set 3 0 0 0 0 0 8192 8348 0 0 0 0 0 => done
-turn 3 2 => stopped 0 2 8192 2 read 8352
-look 3 => state 0 0 0 0 0 8192 8348 0 0 0 0 0 stopped 2 8192 2 read 8352
-set 3 0 0 5 0 0 8192 8346 0 0 0 0 0 => done
-turn 3 2 => stopped 0 2 8192 3 read 10
+set 3 0 0 0 0 0 8204 8348 0 0 0 0 0 => done
+turn 3 2 => stopped 0 2 8204 2 read 8352
+look 3 => state 0 0 0 0 0 8204 8348 0 0 0 0 0 stopped 2 8204 2 read 8352
+set 3 0 0 5 0 0 8204 8346 0 0 0 0 0 => done
+turn 3 2 => stopped 0 2 8204 3 read 10
 
 # cause 2 at the operand, read
-load 3 8192 {LDW A2 2 0; LDW A2 3 0} => done
-set 3 0 0 0 8350 8355 8192 0 0 0 0 0 0 => done
-turn 3 2 => stopped 1 2 8194 3 read 8352
-look 3 => state 0 0 0 8350 8355 8194 0 0 0 1 0 0 stopped 2 8194 3 read 8352
+set 3 0 0 0 8350 8355 8206 0 0 0 0 0 0 => done
+turn 3 2 => stopped 1 2 8208 3 read 8352
+look 3 => state 0 0 0 8350 8355 8208 0 0 0 1 0 0 stopped 2 8208 3 read 8352
 
-# cause 2 at the operand, write: under a read grant, and over another bay's bytes
-load 3 8192 {LDL L 0 255; ST A2 2 0} => done
-set 3 0 0 0 256 0 8192 0 0 0 0 0 0 => done
-turn 3 2 => stopped 1 2 8194 3 write 256
+# cause 2 at the operand, write: under a read grant, its own code too, and over another bay's bytes
+set 3 0 0 0 256 0 8210 0 0 0 0 0 0 => done
+turn 3 2 => stopped 1 2 8212 3 write 256
 copy 3 256 4 => bytes 0800000D
-set 3 0 0 0 8352 0 8192 0 0 0 0 0 0 => done
-turn 3 2 => stopped 1 2 8194 3 write 8352
+set 3 0 0 0 8212 0 8210 0 0 0 0 0 0 => done
+turn 3 2 => stopped 1 2 8212 3 write 8212
+set 3 0 0 0 8352 0 8210 0 0 0 0 0 0 => done
+turn 3 2 => stopped 1 2 8212 3 write 8352
 copy 4 8352 4 => bytes 99887766
-set 3 0 0 0 8351 0 8192 0 0 0 0 0 0 => done
+set 3 0 0 0 8351 0 8210 0 0 0 0 0 0 => done
 turn 3 2 => spent 2
 copy 3 8350 2 => bytes 00FF
 
 # inside a string: what was moved stays moved
-load 3 8192 {MHS L 0 0} => done
-set 3 0 0 65532 8354 264 8192 0 0 0 0 0 0 => done
-turn 3 9 => stopped 2 2 8192 3 write 8352
-look 3 => state 0 0 65534 8354 264 8192 0 0 0 0 0 0 stopped 2 8192 3 write 8352
+set 3 0 0 65532 8354 264 8214 0 0 0 0 0 0 => done
+turn 3 9 => stopped 2 2 8214 3 write 8352
+look 3 => state 0 0 65534 8354 264 8214 0 0 0 0 0 0 stopped 2 8214 3 write 8352
 copy 3 8348 4 => bytes 000D0008
 copy 4 8352 4 => bytes 99887766
 
 # a stopped bay's grants count
-grant 4 read 8255 8255 => refused 6
+grant 4 read 8351 8351 => refused 6
+grant 4 write 8255 8255 => refused 6
 grant 4 write 511 511 => refused 6
 
-# ---- two programs by turns: one counts down, one up
-load 3 8192 {SBL L 0 1; B B 0 -2} => done
-load 4 8352 {ADL L 0 1; B B 0 -2} => done
-set 3 0 0 1 1 1 8192 1 0 0 0 0 0 => done
-set 4 0 0 2 2 2 8352 2 0 0 0 0 0 => done
+# ---- two programs by turns, which share their code: one counts down, one up
+grant 4 read 8192 8255 => done
+set 3 0 0 1 1 1 8216 1 0 0 0 0 0 => done
+set 4 0 0 2 2 2 8220 2 0 0 0 0 0 => done
 seal 4 => done
 turn 3 3 => spent 3
 turn 4 4 => spent 4
-look 3 => state 4294967294 0 1 1 1 8194 1 0 1 0 0 0 running
-look 4 => state 2 0 2 2 2 8352 2 0 0 0 0 0 running
+look 3 => state 4294967294 0 1 1 1 8218 1 0 1 0 0 0 running
+look 4 => state 2 0 2 2 2 8220 2 0 0 0 0 0 running
 turn 4 65535 => spent 65535
 turn 3 1 => spent 1
-look 3 => state 4294967294 0 1 1 1 8192 1 0 1 0 0 0 running
-look 4 => state 32770 0 2 2 2 8354 2 0 0 0 0 0 running
+look 3 => state 4294967294 0 1 1 1 8216 1 0 1 0 0 0 running
+look 4 => state 32770 0 2 2 2 8222 2 0 0 0 0 0 running
 
 # one stops, the other goes on
-load 4 8352 {HRK L 0 0} => done
-turn 4 5 => stopped 1 3 8352
+set 4 32770 0 2 2 2 8192 2 0 0 0 0 0 => done
+turn 4 5 => stopped 1 3 8194
 turn 3 2 => spent 2
-turn 4 5 => stopped 0 3 8352
-look 4 => state 32770 0 2 2 2 8352 2 0 0 0 0 0 stopped 3 8352
+turn 4 5 => stopped 0 3 8194
+look 4 => state 7 0 2 2 2 8194 2 0 0 0 0 0 stopped 3 8194
 
 # a stopped bay closed and opened again: nothing of it is left
 close 4 => done
 open 4 => done
 look 4 => state 0 0 0 0 0 0 0 0 0 0 0 0 running
 grant 4 write 8352 8353 => done
+grant 4 read 8202 8203 => done
 copy 4 8352 2 => bytes 0000
-set 4 9 8 7 6 5 8352 3 1 1 1 1 1 => done
+set 4 9 8 7 6 5 8202 3 1 1 1 1 1 => done
 seal 4 => done
-turn 4 1 => stopped 0 1 8352
+turn 4 1 => stopped 0 1 8202
 close 4 => done
 open 4 => done
 look 4 => state 0 0 0 0 0 0 0 0 0 0 0 0 running
@@ -444,31 +447,66 @@ turn 4 1 => stopped 0 2 0 1 read 0
 close 4 => done
 close 3 => done
 
+# ---- words that a bay loads for itself, so under a write grant: a stop stands, though a load takes its cause away
+open 4 => done
+grant 4 write 8384 8391 => done
+load 4 8384 1203 => done
+set 4 0 0 0 0 0 8384 0 0 0 0 0 0 => done
+seal 4 => done
+turn 4 5 => stopped 0 1 8384
+load 4 8384 {LDL L 0 7; HRK L 0 0} => done
+turn 4 5 => stopped 0 1 8384
+look 4 => state 0 0 0 0 0 8384 0 0 0 0 0 0 stopped 1 8384
+set 4 0 0 0 0 0 8384 0 0 0 0 0 0 => done
+turn 4 5 => stopped 1 3 8386
+
+# a program that alters its own words
+load 4 8384 {LDL L 0 18; STB A2 1 0; LDL L 0 1} => done
+set 4 0 0 0 0 0 8384 0 0 0 0 0 0 => done
+turn 4 5 => stopped 2 3 8388
+copy 4 8384 6 => bytes 20125C801201
+close 4 => done
+
 # ---- the end of the store and its beginning: a program goes round, a load and a copy do not
+image 65532 {LDL L 0 1; ADL L 0 2}
+image 0 {ADL L 0 4; HRK L 0 0}
 open 6 => done
-grant 6 write 65528 65535 => done
-grant 6 write 0 7 => done
-load 6 65532 {LDL L 0 1; ADL L 0 2} => done
-load 6 0 {ADL L 0 4; HRK L 0 0} => done
-load 6 65534 AABBCC => refused 7
+grant 6 read 65532 65535 => done
+grant 6 read 0 3 => done
+grant 6 write 65528 65531 => done
+grant 6 write 4 7 => done
+load 6 65530 AABBCC => refused 7
+load 6 65535 AA => refused 7
 load 6 65535 AABB => refused 7
-copy 6 65532 4 => bytes 20012102
+load 6 65530 AABB => done
+copy 6 65530 6 => bytes AABB20012102
 copy 6 65535 1 => bytes 02
 copy 6 65535 2 => refused 7
 copy 6 65534 3 => refused 7
-copy 6 0 4 => bytes 21041201
+copy 6 0 5 => bytes 2104120100
 set 6 0 0 0 0 0 65532 0 0 0 0 0 0 => done
 seal 6 => done
 turn 6 9 => stopped 3 3 2
 look 6 => state 7 0 0 0 0 2 0 0 0 0 0 0 stopped 3 2
 close 6 => done
 
+# the same of bytes that it may write
+open 6 => done
+grant 6 write 65528 65531 => done
+grant 6 write 4 7 => done
+load 6 65531 AABB => refused 7
+load 6 65528 01020304 => done
+copy 6 65528 4 => bytes 01020304
+copy 6 65529 4 => refused 7
+close 6 => done
+
 # ---- a fullword over three grants, one of them for reading alone
+image 9004 {LDW A2 2 0; STW A2 2 0; HRK L 0 0; LDL L 0 90; STB A2 3 0; HRK L 0 0}
 open 7 => done
 grant 7 write 9000 9001 => done
 grant 7 read 9002 9002 => done
-grant 7 write 9003 9011 => done
-grant 7 read 9020 9020 => done
+grant 7 write 9003 9003 => done
+grant 7 read 9004 9020 => done
 grant 7 read 9022 9022 => done
 grant 7 write 9024 9025 => done
 load 7 9000 0102 => done
@@ -476,7 +514,7 @@ load 7 9003 04 => done
 load 7 9001 AABB => refused 7
 load 7 9001 AABBCC => refused 7
 load 7 9002 AA => refused 7
-load 7 9004 {LDW A2 2 0; STW A2 2 0; HRK L 0 0} => done
+load 7 9003 AABB => refused 7
 copy 7 9000 4 => bytes 01020004
 set 7 0 0 0 9003 0 9004 0 0 0 0 0 0 => done
 seal 7 => done
@@ -485,12 +523,32 @@ look 7 => state 16908292 0 0 9003 0 9006 0 0 0 0 0 0 stopped 2 9006 3 write 9002
 copy 7 9000 4 => bytes 01020004
 
 # a sixth grant is as good as the first
-load 7 9004 {LDL L 0 90; STB A2 3 0; HRK L 0 0} => done
-set 7 0 0 0 0 9025 9004 0 0 0 0 0 0 => done
-turn 7 9 => stopped 2 3 9008
+set 7 0 0 0 0 9025 9010 0 0 0 0 0 0 => done
+turn 7 9 => stopped 2 3 9014
 copy 7 9024 2 => bytes 005A
 copy 7 9020 3 => refused 7
 close 7 => done
+
+# ---- words across two grants, words of which one byte has none, and words half under a write grant
+image 9100 {LDL L 0 5; LDL L 0 6; LDL L 0 7; LDL L 0 8; LDL L 0 10}
+open 5 => done
+grant 5 read 9100 9100 => done
+grant 5 read 9101 9102 => done
+grant 5 read 9105 9106 => done
+grant 5 write 9107 9108 => done
+grant 5 read 9109 9109 => done
+load 5 9107 0920 => done
+set 5 0 0 0 0 0 9100 0 0 0 0 0 0 => done
+seal 5 => done
+turn 5 9 => stopped 1 2 9102 1 read 9103
+set 5 0 0 0 0 0 9104 0 0 0 0 0 0 => done
+turn 5 9 => stopped 0 2 9104 1 read 9104
+set 5 0 0 0 0 0 9106 0 0 0 0 0 0 => done
+turn 5 1 => spent 1
+look 5 => state 9 0 0 0 0 9108 0 0 0 0 0 0 running
+turn 5 9 => stopped 1 2 9110 1 read 9110
+look 5 => state 10 0 0 0 0 9110 0 0 0 0 0 0 stopped 2 9110 1 read 9110
+close 5 => done
 
 # ---- all eight at once, and all closed again
 open 1 => done
@@ -526,6 +584,9 @@ copy 2 65535 65536 => refused 7
 copy 2 0 65536 => bytes of the image
 close 2 => done
 copy 1 256 16 => bytes 0800000D0008000103FF0400000303FD
+set 1 0 0 0 0 0 1048 0 0 0 0 0 0 => done
+seal 1 => done
+turn 1 9 => stopped 0 3 1048
 close 1 => done
 
 # one bay may write it all: its last byte has no next one
@@ -542,9 +603,8 @@ copy 1 65535 1 => bytes AB
 copy 1 65535 2 => refused 7
 copy 1 65534 2 => bytes 00AB
 copy 1 0 2 => bytes 0000
-load 1 0 {SFM L 0 0; LD A1 0 0} => done
 seal 1 => done
-turn 1 9 => stopped 1 4 2
+load 1 0 0102 => done
 close 1 => done
 
 # closed, it is all zero
@@ -566,8 +626,30 @@ seal 2 => done
 open 8 => done
 grant 8 read 0 99 => done
 seal 8 => done
-turn 8 1 => stopped 0 1 0
+set 8 0 0 0 0 0 100 0 0 0 0 0 0 => done
+turn 8 1 => stopped 0 2 100 1 read 100
 """
+
+
+def in_words(book, line):
+    """The line with the words of its instructions, and the instructions."""
+    if "{" not in line:
+        return line, ""
+    before, listed = line.rstrip("}").split("{")
+    instructions = [text.split() for text in listed.split("; ")]
+    content = b"".join(machine.put_together(book, name, fmt, int(m), int(d)).to_bytes(2, "big")
+                       for name, fmt, m, d in instructions)
+    return before + content.hex().upper(), ", ".join(" ".join(words) for words in instructions)
+
+
+def by_hand_in_image(book, image, text):
+    """Puts what the lines `image` say into the image."""
+    for line in text.strip().split("\n"):
+        if line.startswith("image "):
+            _, address, content = in_words(book, line)[0].split()
+            content = bytes.fromhex(content)
+            assert not any(image[int(address):int(address) + len(content)]), line
+            image[int(address):int(address) + len(content)] = content
 
 
 def by_hand(asked, text):
@@ -575,17 +657,20 @@ def by_hand(asked, text):
         if not line or line.startswith("#"):
             asked.lines.append(line)
             continue
+        if line.startswith("image "):
+            said, instructions = in_words(asked.book, line)
+            asked.remark(f"at {said.split()[1]} the image has " + (instructions or said.split()[2]))
+            continue
         call, expected = line.split(" => ")
-        if "{" in call:
-            before, listed = call.rstrip("}").split("{")
-            words = [w.split() for w in listed.split("; ")]
-            asked.remark(", ".join(" ".join(w) for w in words))
-            content = b"".join(asked.word(name, fmt, int(m), int(d)) for name, fmt, m, d in words)
-            call = before + content.hex().upper()
+        call, instructions = in_words(asked.book, call)
+        if instructions:
+            asked.remark(instructions)
         address, length = (call.split() + ["0", "0"])[2:4]
         if expected == "bytes of the image":
-            content = asked.image[int(address):int(address) + int(length)]
-            expected = f"bytes {hall.shown(content)}"
+            content = bytearray(asked.image[int(address):int(address) + int(length)])
+            for byte in asked.cleared:
+                content[byte - int(address)] = 0
+            expected = f"bytes {hall.shown(bytes(content))}"
         elif expected == "zero bytes":
             expected = f"bytes {hall.shown(bytes(int(length)))}"
         answer = asked.ask(call)
@@ -631,21 +716,20 @@ EDGES16 = [0, 1, 2, 3, 5, 32767, 32768, 65533, 65534, 65535]
 EDGES32 = [0, 1, 2, 255, 32767, 32768, 65535, 2 ** 31 - 1, 2 ** 31, 2 ** 32 - 32768, 2 ** 32 - 2,
            2 ** 32 - 1]
 SHORE = [(256, 511), (1024, 2047), (1536, 2559), (2560, 3071)]
+SHORE_STARTS = [1024, 1536, 2048, 2560]
+# where the image has programs made at random, each with an undefined word at its end
+LIBRARIES = [(4500, 4599), (6100, 7999), (14000, 14199), (18100, 19999), (32600, 34599),
+             (40000, 41999), (51000, 52999), (62600, 64299)]
+UNDEFINED = b"\x12\x03"  # in every book
 OPERATIONS = [0, 9, 10, 11, 14]
 
 
-class Histories:
-    """Bays that live side by side. A life is a generator of calls, which gets
-    the answer to each; the next call is that of any bay, or one of no plan."""
+class Choices:
+    """What is chosen at random, programs among it."""
 
-    def __init__(self, asked, seed):
-        self.asked = asked
-        self.bays = asked.hall.bays
+    def __init__(self, book, seed):
+        self.book = book
         self.rng = random.Random(seed)
-        self.zone = (0, 65536)
-        self.lives = {}
-
-    # -- choices
 
     def chance(self, percent):
         return self.rng.randrange(100) < percent
@@ -658,6 +742,100 @@ class Histories:
                 return choice
             at -= weight
         raise AssertionError
+
+    def bytes(self, count):
+        return bytes(self.rng.randrange(256) for _ in range(count))
+
+    def word(self, name, fmt="L", m=0, d=0):
+        return machine.put_together(self.book, name, fmt, m, d).to_bytes(2, "big")
+
+    def instruction(self, low):
+        """One instruction that a program might well have, as its word; low says
+        whether the program may touch the sample's constants."""
+        rng, word = self.rng, self.word
+        how = self.some((48, "A"), (22, "L"), (8, "bit"), (9, "branch"), (3, "B"), (6, "string"),
+                        (3, "mode"), (1, "any"))
+        if how == "A":
+            name = rng.choice(machine.A_NAMES)
+            if name in ("BI", "BLI") and self.chance(60):
+                name = "LDX"
+            fmt = self.some((16 if low else 1, "A1"), (45, "A2"), (1, "A3"), (14, "A4"), (30, "A5"))
+            m = rng.choice([0, 0, 0, 1, 2, 2, 3, 3]) if fmt in machine.HAS_M else 0
+            if fmt == "A5" and m == 1:
+                m = 2
+            d = rng.randrange(6)
+            if fmt == "A1":
+                d = 256 // machine.item_length(name) % 256 + rng.randrange(4)
+            return word(name, fmt, m, d)
+        if how == "L":
+            return word(rng.choice(["LDL", "ADL", "SBL", "CPL", "NL", "ML"]), "L", 0,
+                        rng.choice([0, 1, 2, 3, 7, 127, 128, 255]))
+        if how == "bit":
+            control = rng.choice(OPERATIONS) * 16 + rng.randrange(16)
+            if self.chance(10):
+                control = rng.randrange(256)
+            return word("BITL" if self.chance(80) else "BITX", "L", 0, control)
+        if how == "branch":
+            return word(rng.choice(machine.CONDITIONAL), "L", 0, rng.randrange(-5, 4))
+        if how == "B":
+            return word(rng.choice(["B", "B", "BL"]), "B", 0, rng.randrange(-4, 3))
+        if how == "string":
+            return word(rng.choice(["MBS", "MHS", "CPBS", "TRBS", "SCBS"]))
+        if how == "mode":
+            return word(self.some((30, "SIM"), (15, "SFM"), (20, "RK"), (20, "SFN"), (15, "HRK")))
+        return self.bytes(2)
+
+    def program(self, low, most):
+        """The bytes of a program of at most so many words."""
+        rng, word = self.rng, self.word
+        how = self.some((72, "sensible"), (13, "loop"), (11, "string"), (4, "any"))
+        most = max(1, min(most, 12))
+        if how == "any":
+            return self.bytes(2 * rng.randrange(1, min(most, 6) + 1))
+        if how == "loop" and most >= 3:
+            # a, x or y move on and on, until a budget or an overflow ends it
+            body = rng.randrange(1, min(most, 5) - 1)
+            words = [rng.choice([word("ADL", "L", 0, rng.choice([1, 255])), word("SBL", "L", 0, 3),
+                                 word("ADX", "A2", 1, 0), word("LDX", "A2", 0, 0),
+                                 word("STX", "A2", 0, 1), word("ML", "L", 0, 3),
+                                 word("ST", "A2", 0, 0), word("NX", "A2", 1, 1)])
+                     for _ in range(body)]
+            back = rng.choice([("B", "B"), ("BNZ", "L"), ("BNN", "L"), ("B", "B")])
+            words.append(word(*back, 0, -body - 1))
+            return b"".join(words) + word("HRK")
+        if how == "string":
+            return word(rng.choice(["MBS", "MHS", "CPBS", "TRBS", "SCBS"])) + word("HRK")
+        words = [self.instruction(low) for _ in range(rng.randrange(1, most + 1))]
+        end = self.some((45, "halt"), (35, "again"), (20, "on"))
+        if end == "halt":
+            words.append(word("HRK"))
+        elif end == "again":
+            words.append(word("B", "B", 0, -len(words) - 1))
+        return b"".join(words[:most])
+
+    def programs(self, first, last):
+        """Programs one after the other, and where each begins."""
+        content, starts = b"", []
+        while (room := (last - 1 - first - len(content)) // 2) > 0:
+            starts.append(first + len(content))
+            content += self.program(self.chance(4), room)
+        return content[:last - 1 - first] + UNDEFINED, starts
+
+
+class Histories(Choices):
+    """Bays that live side by side. A life is a generator of calls, which gets
+    the answer to each; the next call is that of any bay, or one of no plan.
+    starts has the addresses of the programs that the image has."""
+
+    def __init__(self, asked, seed, starts):
+        super().__init__(asked.book, seed)
+        self.asked = asked
+        self.bays = asked.hall.bays
+        self.starts = starts
+        self.zone = (0, 65536)
+        self.lives = {}
+
+    # -- addresses and bytes
 
     def clip(self, address):
         return min(max(address, 0), 65535)
@@ -681,9 +859,6 @@ class Histories:
             g.first, g.last, g.first - 1, g.last + 1, g.first + rng.randrange(4),
             g.last - rng.randrange(4), rng.randrange(g.first, g.last + 1),
             rng.randrange(g.first, g.last + 1)]))
-
-    def bytes(self, count):
-        return bytes(self.rng.randrange(256) for _ in range(count))
 
     # -- grants
 
@@ -719,78 +894,42 @@ class Histories:
     def grant(self, n, kind=None, first=None, last=None):
         if first is None:
             first, last = self.range()
-            # the sample's code stays: closing would make it zero
-            if first <= 3071 and last >= 256:
-                kind = "read"
+        # the image's programs stay: closing would make them zero
+        if kind is None and self.has_code(first, last):
+            kind = "read"
         if kind is None:
             kind = self.some((55, "write"), (45, "read"))
         return f"grant {n} {kind} {first} {last}"
 
-    # -- words
+    def has_code(self, first, last):
+        return any(first <= end and last >= begin for begin, end in [(256, 3071)] + LIBRARIES)
 
-    def instruction(self, n):
-        """One instruction that a program might well have, as its word."""
-        rng, word = self.rng, self.asked.word
-        low = any(g.first <= 256 and g.last >= 271 for g in self.own(n))
-        how = self.some((48, "A"), (22, "L"), (8, "bit"), (9, "branch"), (3, "B"), (6, "string"),
-                        (3, "mode"), (1, "any"))
-        if how == "A":
-            name = rng.choice(machine.A_NAMES)
-            if name in ("BI", "BLI") and self.chance(60):
-                name = "LDX"
-            fmt = self.some((16 if low else 1, "A1"), (45, "A2"), (1, "A3"), (14, "A4"), (30, "A5"))
-            m = rng.choice([0, 0, 0, 1, 2, 2, 3, 3]) if fmt in machine.HAS_M else 0
-            if fmt == "A5" and m == 1:
-                m = 2
-            d = rng.randrange(6)
-            if fmt == "A1":
-                d = 256 // machine.item_length(name) % 256 + rng.randrange(4)
-            return word(name, fmt, m, d)
-        if how == "L":
-            return word(rng.choice(["LDL", "ADL", "SBL", "CPL", "NL", "ML"]), "L", 0,
-                        rng.choice([0, 1, 2, 3, 7, 127, 128, 255]))
-        if how == "bit":
-            control = rng.choice(OPERATIONS) * 16 + rng.randrange(16)
-            if self.chance(10):
-                control = rng.randrange(256)
-            return word("BITL" if self.chance(80) else "BITX", "L", 0, control)
-        if how == "branch":
-            return word(rng.choice(machine.CONDITIONAL), "L", 0, rng.randrange(-5, 4))
-        if how == "B":
-            return word(rng.choice(["B", "B", "BL"]), "B", 0, rng.randrange(-4, 3))
-        if how == "string":
-            return word(rng.choice(["MBS", "MHS", "CPBS", "TRBS", "SCBS"]))
-        if how == "mode":
-            return word(self.some((30, "SIM"), (15, "SFM"), (20, "RK"), (20, "SFN"), (15, "HRK")))
-        return self.bytes(2)
+    def data(self, most):
+        """First and last of a range of some size in the zone without programs."""
+        for _ in range(20):
+            first = self.in_zone()
+            last = self.clip(first + self.rng.randrange(24, most))
+            if not self.has_code(first, last):
+                break
+        return first, last
 
-    def program(self, n, most):
-        """The bytes of a program of at most so many words."""
-        rng, word = self.rng, self.asked.word
-        how = self.some((58, "sensible"), (20, "loop"), (12, "string"), (10, "any"))
-        most = max(1, min(most, 12))
-        if how == "any":
-            return self.bytes(2 * rng.randrange(1, min(most, 6) + 1))
-        if how == "loop" and most >= 3:
-            # a, x or y move on and on, until a budget or an overflow ends it
-            body = rng.randrange(1, min(most, 5) - 1)
-            words = [rng.choice([word("ADL", "L", 0, rng.choice([1, 255])), word("SBL", "L", 0, 3),
-                                 word("ADX", "A2", 1, 0), word("LDX", "A2", 0, 0),
-                                 word("STX", "A2", 0, 1), word("ML", "L", 0, 3),
-                                 word("ST", "A2", 0, 0), word("NX", "A2", 1, 1)])
-                     for _ in range(body)]
-            back = rng.choice([("B", "B"), ("BNZ", "L"), ("BNN", "L"), ("B", "B")])
-            words.append(word(*back, 0, -body - 1))
-            return b"".join(words) + word("HRK")
-        if how == "string":
-            return word(rng.choice(["MBS", "MHS", "CPBS", "TRBS", "SCBS"])) + word("HRK")
-        words = [self.instruction(n) for _ in range(rng.randrange(1, most + 1))]
-        end = self.some((45, "halt"), (35, "again"), (20, "on"))
-        if end == "halt":
-            words.append(word("HRK"))
-        elif end == "again":
-            words.append(word("B", "B", 0, -len(words) - 1))
-        return b"".join(words[:most])
+    def library(self):
+        """A library of the zone, or one of them all, or part of it."""
+        rng = self.rng
+        near = [(first, last) for first, last in LIBRARIES
+                if self.zone[0] - 2500 < first < self.zone[1] + 2500]
+        first, last = rng.choice(near or LIBRARIES)
+        how = self.some((80, "whole"), (10, "beginning"), (10, "end"))
+        if how == "beginning":
+            return first, rng.randrange(first + 1, last)
+        if how == "end":
+            return rng.randrange(first + 1, last), last
+        return first, last
+
+    def readable(self, n):
+        """The programs of the image that the bay may read, or begin with."""
+        return [s for s in SHORE_STARTS + self.starts
+                if any(g.has(s) and not g.write for g in self.own(n))]
 
     # -- registers
 
@@ -803,7 +942,7 @@ class Histories:
             return rng.randrange(g.first + 12, g.last - 16)
         how = self.some((60, "within"), (22, "near"), (6, "other"), (12, "edge"))
         if how == "within" and own:
-            g = rng.choice(own)
+            g = rng.choice(self.own(n, write=self.chance(75)) or own)
             return rng.randrange(g.first, g.last + 1)
         if how == "near" and own:
             return self.near(rng.choice(own))
@@ -813,7 +952,7 @@ class Histories:
 
     def set(self, n, s, y=None, z=None, l=None):
         """All registers and markers; the addresses not given are aimed."""
-        rng, well = self.rng, self.chance(65)
+        rng, well = self.rng, self.chance(72)
         a = rng.choice(EDGES32) if self.chance(70) else rng.randrange(2 ** 32)
         b = rng.choice([0, 0, 1, 2 ** 32 - 1])
         x = rng.choice([0, 1, 2, 3, 4, 5, 65535, 65534, 65533, 65532])
@@ -901,23 +1040,30 @@ class Histories:
             yield from self.afterwards(n)
 
     def mixed(self, n):
-        """A write grant of some size, and others of all kinds."""
+        """Programs to be read, a write grant of some size, and others of all kinds."""
+        if self.chance(97):
+            yield self.grant(n, "read", *self.library())
         for _ in range(4):
-            first = self.in_zone()
-            last = self.clip(first + self.rng.randrange(24, 200))
-            yield self.grant(n, "write", first, last)
+            yield self.grant(n, "write", *self.data(300))
             if self.own(n, write=True, size=16):
                 break
-        for _ in range(self.rng.randrange(0, 5)):
+        for _ in range(self.rng.randrange(0, 4)):
             yield self.grant(n)
 
     def chain(self, n):
-        """Small grants side by side."""
-        at = self.in_zone() % 65000
-        for i in range(self.rng.randrange(3, 8)):
+        """Small grants side by side, of a program or of data."""
+        if self.chance(50):
+            at = self.rng.choice(self.starts)
+            for length in self.rng.choices([1, 2, 2, 3, 4, 5, 24], k=self.rng.randrange(2, 5)):
+                yield self.grant(n, "read", at, at + length - 1)
+                at += length + self.chance(8)
+        else:
+            yield self.grant(n, "read", *self.library())
+        at = self.data(60)[0] % 65000
+        for i in range(self.rng.randrange(3, 7)):
             length = self.rng.choice([1, 1, 2, 3, 4, 5, 24])
             kind = "write" if i == 0 or self.chance(65) else "read"
-            if at + length <= 65536:
+            if at + length <= 65536 and not self.has_code(at, at + length - 1):
                 yield self.grant(n, kind, at, at + length - 1)
             at += length + self.chance(8)
 
@@ -925,7 +1071,8 @@ class Histories:
         """The two ends of the store."""
         low = self.rng.choice([3, 7, 40, 255])
         high = self.rng.choice([65535, 65534, 65532, 65500, 65400])
-        calls = [self.grant(n, "write", high, 65535), self.grant(n, "write", 0, low), self.grant(n)]
+        calls = [self.grant(n, "write", high, 65535), self.grant(n, "write", 0, low), self.grant(n),
+                 self.grant(n, "read", *self.library())]
         self.rng.shuffle(calls)
         yield from calls
 
@@ -935,19 +1082,22 @@ class Histories:
             if self.chance(85):
                 yield self.grant(n, "read", first, last)
         for _ in range(2):
-            first = self.in_zone()
-            yield self.grant(n, "write", first, self.clip(first + 63))
+            yield self.grant(n, "write", *self.data(64))
 
     def bare(self, n):
         """Nothing to write, or nothing at all."""
+        if self.chance(30):
+            yield self.grant(n, "read", *self.library())
         for _ in range(self.rng.choice([0, 0, 1, 3])):
             first, last = self.range()
             yield self.grant(n, "read", first, last)
 
     def crowded(self, n):
         """More than it may have."""
-        for _ in range(self.rng.randrange(8, 12)):
-            yield self.grant(n, self.rng.choice(["read", "read", "write"]), *self.fresh_or_any())
+        yield self.grant(n, "read", *self.library())
+        for _ in range(self.rng.randrange(7, 11)):
+            first, last = self.fresh_or_any()
+            yield self.grant(n, self.rng.choice(["read", "read", "write"]), first, last)
 
     def institute(self, n):
         """One of the sample's programs over areas of its own, to its end or nearly."""
@@ -955,7 +1105,9 @@ class Histories:
         start = rng.choice([1024, 2048, 2560])
         for first, last in ((256, 511), (1024, 2559), (2560, 3071)):
             yield self.grant(n, "read", first, last)
-        y = rng.randrange(3100, 60000) // 2 * 2
+        y = 4096
+        while self.has_code(y, y + 4105):
+            y = rng.randrange(3100, 60000) // 2 * 2
         z, l = y + 2048, y + 4096
         whole = [(y, y + 2047), (z, z + 2047), (l, l + 9)]
         if self.chance(50):
@@ -990,20 +1142,24 @@ class Histories:
         if self.chance(60):
             first = self.in_zone()
             last = self.clip(first + self.rng.randrange(3))
-        if first <= 3071 and last >= 256:
-            return 3900, 3901
-        return first, last
+        return (4898, 4899) if self.has_code(first, last) else (first, last)
 
     def furnish(self, n):
-        """A program, data and registers; the program's address comes back."""
+        """A program, data and registers; the program's address comes back.
+
+        The program is one of the image's, or seldom one that the bay loads."""
         rng, code = self.rng, None
         work = self.own(n, write=True, size=4)
-        if work:
+        starts = self.readable(n)
+        if starts and self.chance(97):
+            code = rng.choice(starts)
+        elif work and self.chance(70):
             g = max(work, key=lambda g: g.last - g.first) if self.chance(85) else rng.choice(work)
             even = g.first + g.first % 2
             room = (g.last + 1 - even) // 2
             code = even + 2 * (rng.randrange(room) if self.chance(25) else 0)
-            content = self.program(n, (g.last + 1 - code) // 2)
+            low = any(g.first <= 256 and g.last >= 271 for g in self.own(n))
+            content = self.program(low, (g.last + 1 - code) // 2)
             yield f"load {n} {code} {hall.shown(content)}"
         l = None
         if self.own(n, write=True, size=40) and self.chance(45):
@@ -1015,7 +1171,6 @@ class Histories:
         for _ in range(rng.choice([0, 0, 1, 1, 2])):
             yield self.load(n)
         if code is None or self.chance(6):
-            starts = [s for s in (1024, 1536, 2048, 2560) if any(g.has(s) for g in self.own(n))]
             code = rng.choice(starts) if starts and self.chance(80) else self.aim(n)
         yield self.set(n, code, l=l)
         return code
@@ -1041,6 +1196,9 @@ class Histories:
         if self.chance(55):
             code = yield from self.furnish(n)
         elif self.chance(75):
+            starts = self.readable(n)
+            if starts and self.chance(60):
+                code = rng.choice(starts)
             yield self.set(n, code if code is not None else self.aim(n))
         else:
             yield self.load(n)
@@ -1125,21 +1283,35 @@ def table(asked):
         "standing, budget 0", "standing, budget above 0"}
 
 
+def made_image(book):
+    """The sample's image with the programs of the script beside it, and where those
+    that are made at random begin."""
+    image, starts = bytearray(read("shore.img")), []
+    by_hand_in_image(book, image, FIRST_PART)
+    choices = Choices(book, 4081)
+    for first, last in LIBRARIES:
+        content, begins = choices.programs(first, last)
+        assert len(content) <= last + 1 - first and not any(image[first:last + 1])
+        image[first:first + len(content)] = content
+        starts += begins
+    return bytes(image), starts
+
+
 def main():
-    book_text, image = read("shore.book"), read("shore.img")
-    book = machine.read_book(book_text)
+    book = machine.read_book(read("shore.book"))
+    image, starts = made_image(book)
     asked = Asked(image, book)
     asked.remark("made by tools/oracle/make_scripts.py, not by hand")
     asked.remark()
     by_hand(asked, FIRST_PART)
     three_jobs(asked)
-    histories = Histories(asked, 4082)
-    for calls, start, span in ((1500, 3800, 1200), (1500, 30000, 2500), (1200, 0, 65536),
+    histories = Histories(asked, 4082, starts)
+    for calls, start, span in ((1500, 3800, 1200), (1500, 30000, 2500), (1400, 0, 65536),
                                (1200, 50001, 800), (1000, 64400, 1136), (1200, 12000, 6000)):
         histories.history(calls, start, span)
     asked.remark()
     by_hand(asked, SECOND_PART)
-    histories.history(400, 0, 3000)
+    histories.history(157, 0, 3000)
     asked.remark()
     by_hand(asked, LAST_PART)
 
@@ -1149,11 +1321,11 @@ def main():
     place = os.path.join(CRATES, "calls")
     os.makedirs(os.path.join(place, "data"), exist_ok=True)
     given = "".join(answer + "\n" for answer in asked.answers)
-    for name, content in (("stdin", text), ("stdout", given), ("args", "shore.book\nshore.img\n")):
+    for name, content in (("stdin", text), ("stdout", given), ("args", "shore.book\nscript.img\n")):
         with open(os.path.join(place, name), "w", newline="") as file:
             file.write(content)
-    for name in ("shore.book", "shore.img"):
-        shutil.copyfile(os.path.join(DATA, name), os.path.join(place, "data", name))
+    with open(os.path.join(place, "data", "script.img"), "wb") as file:
+        file.write(image)
     table(asked)
     print(f"stdin {len(text)} bytes, stdout {len(given)} bytes")
 

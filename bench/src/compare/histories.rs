@@ -265,8 +265,9 @@ impl Inputs {
     }
 }
 
+/// Mostly words that a bay can obey from where it may read.
 fn image(random: &mut Random, words: &[u16]) -> Vec<u8> {
-    match random.below(4) {
+    match random.below(12) {
         0 => vec![0; SIZE],
         1 => (0..SIZE).map(|_| random.u8()).collect(),
         _ => (0..SIZE / 2)
@@ -369,7 +370,7 @@ impl<S: Store> Player<'_, S> {
         match (self.hall().stage(bay), chance) {
             (_, 92..) => self.any_call(bay, grants),
             (Stage::Free, _) => Call::Open,
-            (Stage::InPreparation, 0..=77) if !has_write_grant(grants) => self.grant(),
+            (Stage::InPreparation, 0..=77) if !has_both_kinds(grants) => self.grant(),
             (Stage::InPreparation, 0..=37) => self.grant(),
             (Stage::InPreparation, 38..=55) => self.load(grants),
             (Stage::InPreparation, 56..=67) => self.set(bay, grants),
@@ -448,12 +449,20 @@ impl<S: Store> Player<'_, S> {
         }
     }
 
-    /// An address that is mostly well inside a grant.
+    /// An address that is mostly well inside a grant, and mostly one of a read grant.
     fn code_place(&mut self, grants: &[Grant]) -> u16 {
         if grants.is_empty() || self.random.percent(15) {
             return self.place(grants);
         }
-        let grant = *self.random.pick(grants);
+        let readable: Vec<Grant> = grants
+            .iter()
+            .copied()
+            .filter(|grant| grant.kind == Kind::Read)
+            .collect();
+        let grant = match readable.is_empty() || self.random.percent(5) {
+            true => *self.random.pick(grants),
+            false => *self.random.pick(&readable),
+        };
         let length = usize::from(grant.last - grant.first) + 1;
         grant.first + self.random.below(length.min(30)) as u16
     }
@@ -503,7 +512,7 @@ impl<S: Store> Player<'_, S> {
             registers.s &= !1;
         }
         if let Some(program) = self.programs[bay - 1] {
-            if self.random.percent(60) {
+            if self.random.percent(8) {
                 registers.s = program;
             }
         }
@@ -537,8 +546,10 @@ impl<S: Store> Player<'_, S> {
     }
 }
 
-fn has_write_grant(grants: &[Grant]) -> bool {
-    grants.iter().any(|grant| grant.kind == Kind::Write)
+fn has_both_kinds(grants: &[Grant]) -> bool {
+    [Kind::Read, Kind::Write]
+        .iter()
+        .all(|kind| grants.iter().any(|grant| grant.kind == *kind))
 }
 
 fn cover(coverage: &mut Coverage, request: &Request, reply: &Reply) {

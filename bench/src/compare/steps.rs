@@ -99,7 +99,7 @@ impl Case {
         let (bytes, touched) = rehearse(random, readings, &registers, bytes, budget);
         Case {
             grants: if budget > 1 && random.percent(30) {
-                vec![Grant::new(Kind::Write, 0, u16::MAX)]
+                everything(&touched)
             } else {
                 grants(random, registers.s, &touched)
             },
@@ -254,15 +254,33 @@ fn aim(random: &mut Random, readings: &Readings, word: u16, registers: &mut Regi
     }
 }
 
-/// Does the turn under a grant of everything over a store that makes its bytes
-/// up. Gives these bytes, and all that were touched, with whether they were written.
+/// How a byte was touched.
+#[derive(Clone, Copy, Default)]
+struct Touch {
+    fetched: bool,
+    written: bool,
+}
+
+impl Touch {
+    /// The grant that a byte needs: one to be read for what is obeyed, unless it is written too.
+    fn kind(self) -> Kind {
+        if self.written {
+            Kind::Write
+        } else {
+            Kind::Read
+        }
+    }
+}
+
+/// Does the turn under grants of everything over a store that makes its bytes
+/// up. Gives these bytes, and all that were touched.
 fn rehearse(
     random: &mut Random,
     readings: &Readings,
     registers: &Registers,
     given: BTreeMap<u16, u8>,
     budget: u16,
-) -> (BTreeMap<u16, u8>, BTreeMap<u16, Kind>) {
+) -> (BTreeMap<u16, u8>, BTreeMap<u16, Touch>) {
     let few_values = random.percent(20);
     let fullword = |random: &mut Random| match random.below(10) {
         _ if few_values => [0; 4].map(|_| *random.pick(&[0, 0, 0, 1, 8])),
@@ -282,68 +300,128 @@ fn rehearse(
     };
     let own_random = Random::new(random.u64());
     let mut store = Watched::new(MadeUp::new(given, own_random, fullword));
-    let mut everything = Grants::new(vec![Grant::new(Kind::Write, 0, u16::MAX)]);
-    turn(
-        readings,
-        &mut everything,
-        &mut store,
-        &mut registers.clone(),
-        budget,
-    );
-    let mut touched = BTreeMap::new();
+    let kinds = [Kind::Read, Kind::Write];
+    let mut everything = Grants::new(kinds.map(|kind| Grant::new(kind, 0, u16::MAX)).into());
+    let mut registers = *registers;
+    let mut touched: BTreeMap<u16, Touch> = BTreeMap::new();
+    for _ in 0..budget {
+        for at in [registers.s & !1, registers.s | 1] {
+            touched.entry(at).or_default().fetched = true;
+        }
+        if step(readings, &mut everything, &mut store, &mut registers).is_err() {
+            break;
+        }
+    }
     for (access, at) in store.take_accesses() {
-        let kind = touched.entry(at).or_insert(access);
-        *kind = access.max(*kind);
+        touched.entry(at).or_default().written |= access == Kind::Write;
     }
     (store.below.into_first_bytes(), touched)
 }
 
-/// Grants such that the program is mostly fetched, and about half of what it
-/// touches besides is granted.
-fn grants(random: &mut Random, s: u16, touched: &BTreeMap<u16, Kind>) -> Vec<Grant> {
+/// Grants of the whole store: what is obeyed is to be read, where the program does not alter
+/// it and there are not too many parts of it, and all else to be written.
+fn everything(touched: &BTreeMap<u16, Touch>) -> Vec<Grant> {
+    let mut grants: Vec<Grant> = Vec::new();
+    let mut next = Some(0);
+    for at in touched
+        .iter()
+        .filter(|(_, touch)| touch.fetched)
+        .map(|(&at, _)| at)
+    {
+        match grants.last_mut() {
+            Some(code) if code.kind == Kind::Read && code.last + 1 == at => code.last = at,
+            _ => {
+                if let Some(first) = next.filter(|&first| first < at) {
+                    grants.push(Grant::new(Kind::Write, first, at - 1));
+                }
+                grants.push(Grant::new(Kind::Read, at, at));
+            }
+        }
+        next = at.checked_add(1);
+    }
+    if let Some(first) = next {
+        grants.push(Grant::new(Kind::Write, first, u16::MAX));
+    }
+    let alters_itself = touched.values().any(|touch| touch.fetched && touch.written);
+    if alters_itself || grants.len() > MOST {
+        return vec![Grant::new(Kind::Write, 0, u16::MAX)];
+    }
+    grants
+}
+
+/// Grants such that the program is mostly fetched, from where it may be read, and about
+/// half of what it touches besides is granted. No two of them clash.
+fn grants(random: &mut Random, s: u16, touched: &BTreeMap<u16, Touch>) -> Vec<Grant> {
     match random.below(100) {
         0..=1 => return vec![],
-        2..=11 => return vec![Grant::new(Kind::Write, 0, u16::MAX)],
+        2..=11 => return everything(touched),
         12..=14 => return vec![Grant::new(Kind::Read, 0, u16::MAX)],
         _ => {}
     }
-    let mut grants = Vec::new();
+    let mut wanted = Vec::new();
     for range in ranges(random, touched) {
-        grant_some(random, range, &mut grants);
+        grant_some(random, range, &mut wanted);
     }
     if random.percent(10) {
         let first = values::address(random);
         let last = first.saturating_add(random.below(3000) as u16);
         let kind = *random.pick(&[Kind::Read, Kind::Write]);
-        grants.push(Grant::new(kind, first, last));
+        wanted.push(Grant::new(kind, first, last));
+    }
+    random.shuffle(&mut wanted);
+    if random.percent(95) {
+        // seldom from where it may be written too
+        let kind = if random.percent(4) {
+            Kind::Write
+        } else {
+            Kind::Read
+        };
+        wanted.insert(0, Grant::new(kind, s & !1, s | 1));
+    }
+    let mut grants: Vec<Grant> = Vec::new();
+    for grant in wanted {
+        if grants.len() < MOST && !grants.iter().any(|other| other.clashes(&grant)) {
+            grants.push(grant);
+        }
     }
     random.shuffle(&mut grants);
-    grants.truncate(MOST - 1);
-    if random.percent(95) {
-        let kind = *random.pick(&[Kind::Read, Kind::Read, Kind::Write]);
-        let at = random.below(grants.len() + 1);
-        grants.insert(at, Grant::new(kind, s & !1, s | 1));
-    }
     grants
 }
 
-/// The touched bytes as ranges of one kind each.
-fn ranges(random: &mut Random, touched: &BTreeMap<u16, Kind>) -> Vec<Grant> {
+/// The touched bytes as ranges of one kind each, what is obeyed apart.
+fn ranges(random: &mut Random, touched: &BTreeMap<u16, Touch>) -> Vec<Range> {
     let gap = *random.pick(&[1, 1, 1, 2, 4, 50]);
-    let mut ranges: Vec<Grant> = Vec::new();
-    for (&at, &kind) in touched {
+    let mut ranges: Vec<Range> = Vec::new();
+    for (&at, touch) in touched {
+        let (kind, code) = (touch.kind(), touch.fetched);
         match ranges.last_mut() {
-            Some(range) if range.kind == kind && at - range.last <= gap => range.last = at,
-            _ => ranges.push(Grant::new(kind, at, at)),
+            Some(range)
+                if range.grant.kind == kind
+                    && range.code == code
+                    && at - range.grant.last <= gap =>
+            {
+                range.grant.last = at
+            }
+            _ => ranges.push(Range {
+                grant: Grant::new(kind, at, at),
+                code,
+            }),
         }
     }
     ranges
 }
 
+/// The grant that touched bytes need, and whether they are obeyed.
+struct Range {
+    grant: Grant,
+    code: bool,
+}
+
 /// Adds grants for a range, or for a part of it, or none.
-fn grant_some(random: &mut Random, range: Grant, grants: &mut Vec<Grant>) {
-    let Grant { kind, first, last } = range;
+fn grant_some(random: &mut Random, range: Range, grants: &mut Vec<Grant>) {
+    let Grant { kind, first, last } = range.grant;
     let enough = match kind {
+        Kind::Read if range.code => Kind::Read,
         Kind::Read => *random.pick(&[Kind::Read, Kind::Read, Kind::Write]),
         Kind::Write => Kind::Write,
     };

@@ -121,7 +121,7 @@ fn a_stop_stands_until_set() {
     let mut hall = hall();
     let handle = hall.open(1).unwrap();
     hall.grant(&handle, write(1000, 1003)).unwrap();
-    hall.load(&handle, 1000, &[0x12, 0, 0, 0]).unwrap();
+    hall.load(&handle, 1000, &[0x12, 0, 0x12, 0x03]).unwrap();
     let at = |s| Registers {
         s,
         ..Registers::default()

@@ -55,26 +55,32 @@ fn check(session: &mut Session<Owned>, lines: &[(&str, &str)]) {
 
 #[test]
 fn example_of_calls() {
-    let mut session = Session::new(Owned::zero(), &Book::new());
+    let mut store = Owned::zero();
+    for (address, byte) in [(1000, 0x12), (1002, 0x12), (1003, 0x01)] {
+        store.write(address, byte);
+    }
+    let mut session = Session::new(store, &Book::new());
     check(
         &mut session,
         &[
             ("open 1", "done"),
-            ("grant 1 write 1000 1003", "done"),
-            ("grant 1 read 1003 1010", "refused 6"),
+            ("grant 1 read 1000 1003", "done"),
+            ("grant 1 write 1003 1010", "refused 6"),
+            ("grant 1 write 1004 1005", "done"),
             ("turn 1 5", "no handle"),
-            ("load 1 1000 12001201", "done"),
+            ("load 1 1004 0A0B", "done"),
+            ("load 1 1003 0A", "refused 7"),
             ("set 1 7 0 0 0 0 1000 0 0 0 0 0 0", "done"),
             ("seal 1", "done"),
             ("turn 1 1", "spent 1"),
             ("look 1", "state 0 0 0 0 0 1002 0 0 0 1 0 0 running"),
             ("turn 1 10", "stopped 0 3 1002"),
             ("look 1", "state 0 0 0 0 0 1002 0 0 0 1 0 0 stopped 3 1002"),
-            ("set 1 0 0 0 0 0 1004 0 0 0 0 0 0", "done"),
-            ("turn 1 1", "stopped 0 2 1004 1 read 1004"),
-            ("copy 1 1000 4", "bytes 12001201"),
+            ("set 1 0 0 0 0 0 1006 0 0 0 0 0 0", "done"),
+            ("turn 1 1", "stopped 0 2 1006 1 read 1006"),
+            ("copy 1 1000 6", "bytes 120012010A0B"),
             ("copy 1 1000 0", "bytes -"),
-            ("copy 1 1002 3", "refused 7"),
+            ("copy 1 1004 3", "refused 7"),
             ("grant 1 read 2000 2001", "no handle"),
             ("open 1", "refused 3"),
             ("close 1", "done"),
@@ -102,7 +108,7 @@ const BAY_1: [(&str, &str); 4] = [
     ("copy 1 200 2", "bytes 2700"),
 ];
 const BAY_2: [(&str, &str); 3] = [
-    ("load 2 300 12000000", "done"),
+    ("load 2 300 12001203", "done"),
     ("set 2 0 0 0 0 0 300 0 0 0 0 0 0", "done"),
     ("turn 2 50", "stopped 1 1 302"),
 ];

@@ -23,7 +23,12 @@ impl Bench {
         Bench {
             readings: Readings::of(&book),
             book,
-            grants: Grants::new(vec![Grant::new(Kind::Write, 0, u16::MAX)]),
+            // The words stand from 1000 on, and no instruction writes there.
+            grants: Grants::new(vec![
+                Grant::new(Kind::Write, 0, 999),
+                Grant::new(Kind::Read, 1000, 1005),
+                Grant::new(Kind::Write, 1006, u16::MAX),
+            ]),
             store: Owned::zero(),
             registers: Registers::default(),
         }
@@ -72,6 +77,7 @@ fn operand_by_s() {
     let mut bench = Bench::new();
     bench.put_halfword(200, 0x4483);
     bench.put_halfword(208, 77);
+    bench.grants = Grants::new(vec![Grant::new(Kind::Read, 200, 209)]);
     bench.registers.s = 200;
     bench.step().unwrap();
     assert_eq!(bench.registers.a, 77);
@@ -224,6 +230,7 @@ fn link_is_set_after_the_operand_is_read() {
 fn a_turn_counts_completed_steps() {
     let mut bench = Bench::new();
     bench.put_halfword(1000, 0x1200);
+    bench.put_halfword(1002, 0x1203);
     bench.registers.s = 1000;
     let mut run = |budget| {
         turn(

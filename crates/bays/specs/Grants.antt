@@ -1,36 +1,41 @@
--- Grants: which bytes they have, when two clash, and the places for six.
-use Rattle.std.specs.Prelude.{ℕ, suc, Bool, true, false, cond, not, ◌&&◌, List, [], ◌∷◌, length, Some, None, Option, nat_le, nat_lt, slice_set}
+-- Grants: which bytes they have, when two clash, the check of a new one, and the places for six.
+use Rattle.std.specs.Prelude.{ℕ, suc, Bool, false, ◌&&◌, ◌||◌, List, [], ◌∷◌, length, Some, None, Ok, Err, Option, Result, nat_le, nat_lt, slice_set, if◌then◌else◌}
 use Rattle.std.specs.List.{list_any}
 use Rattle.access.specs.Access.{granted}
+use Rattle.access.specs.Kinds.{permits}
+use Rattle.access.specs.declared.kind.Use.TheVariants.{Clear}
 use Rattle.access.specs.declared.rights.Grant.{Grant}
-use Rattle.access.specs.declared.rights.Kind.{Kind}
-use Rattle.access.specs.declared.rights.Kind.TheVariants as kind
-use Rattle.access.specs.declared.stop.Access.TheVariants.{Read, Write}
+use Rattle.bays.specs.declared.refusal.Refusal.{Refusal}
+use Rattle.bays.specs.declared.refusal.Refusal.TheVariants.{Reversed, Full, Clash}
 
 -- the byte lies in the grant's range
 abbrev pub has : Grant → ℕ → Bool
 has g at = nat_le g.first at && nat_le at g.last
 
--- some grant lets the byte be read, or written
-abbrev pub reads : List (Option Grant) → ℕ → Bool
-reads gs at = granted gs Read at
+-- a vacant place passes no test
+abbrev pub passes : (Grant → Bool) → Option Grant → Bool
+passes test None = false
+passes test (Some g) = test g
 
-abbrev pub writes : List (Option Grant) → ℕ → Bool
-writes gs at = granted gs Write at
+abbrev pub any_grant : (Grant → Bool) → List (Option Grant) → Bool
+any_grant test gs = list_any (λ g. passes test g) gs
 
-abbrev pub both_read : Kind → Kind → Bool
-both_read kind.Read kind.Read = true
-both_read kind.Read kind.Write = false
-both_read kind.Write kind.Read = false
-both_read kind.Write kind.Write = false
+-- some grant has the byte
+abbrev pub holds : List (Option Grant) → ℕ → Bool
+holds gs at = any_grant (λ g. has g at) gs
+
+-- some grant has it that is exclusive: a close makes its bytes zero, and it shares none
+abbrev pub excludes : List (Option Grant) → ℕ → Bool
+excludes gs at = granted gs Clear at
 
 -- the two ranges have a byte in common
 abbrev pub shares : Grant → Grant → Bool
 shares g h = nat_le g.first h.last && nat_le h.first g.last
 
+-- two grants may share bytes if neither is exclusive
 abbrev pub clashes : Grant → Option Grant → Bool
 clashes g None = false
-clashes g (Some h) = not (both_read g.kind h.kind) && shares g h
+clashes g (Some h) = (permits g.kind Clear || permits h.kind Clear) && shares g h
 
 abbrev pub clashes_any : Grant → List (Option Grant) → Bool
 clashes_any g hs = list_any (clashes g) hs
@@ -45,7 +50,12 @@ abbrev pub room : List (Option Grant) → Bool
 room gs = nat_lt (vacant gs) (length gs)
 
 abbrev pub place : List (Option Grant) → Option ℕ
-place gs = cond (room gs) (Some (vacant gs)) None
+place gs = if room gs then Some (vacant gs) else None
 
 abbrev pub added : Grant → List (Option Grant) → List (Option Grant)
 added g gs = slice_set gs (vacant gs) (Some g)
+
+-- the check of a grant, by the ranges of its own bay, and whether it clashes with some range: its place, or the refusal
+abbrev pub checked : Grant → List (Option Grant) → Bool → Result ℕ Refusal
+checked g own clash =
+    if nat_le g.first g.last then (if room own then (if clash then Err Clash else Ok (vacant own)) else Err Full) else Err Reversed

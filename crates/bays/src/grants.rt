@@ -1,17 +1,19 @@
-ghost use Rattle.bays.specs.Grants.{clashes, clashes_any, place};
-ghost use Rattle.std.specs.Prelude.{◌≡◌, Some};
+ghost use Rattle.bays.specs.Grants.{checked, clashes, clashes_any, place};
+ghost use Rattle.std.specs.Prelude.{◌≡◌, ◌<◌, length, IfOk, IfSome, Some};
 
-use access::{Grant, Kind};
+use crate::refusal::Refusal;
+use access::{Grant, Use};
 
-// Whether they share a byte, unless both are read grants.
+// Whether they share a byte, and one of them is exclusive: a close makes its bytes zero.
 fn clash(a: Grant, b: Grant) -> bool
     ensures { result ≡ clashes a (Some b) }
 {
-    let both_read = a.kind == Kind::Read && b.kind == Kind::Read;
-    !both_read && a.first <= b.last && b.first <= a.last
+    (a.kind.permits(Use::Clear) || b.kind.permits(Use::Clear))
+        && a.first <= b.last
+        && b.first <= a.last
 }
 
-// Whether a grant shares a byte with one of the others, unless both are read grants.
+/// Whether a grant clashes with one of the others.
 pub fn clash_with_any(grant: Grant, others: &[Option<Grant>]) -> bool
     ensures { result ≡ clashes_any grant others.now }
 {
@@ -21,8 +23,24 @@ pub fn clash_with_any(grant: Grant, others: &[Option<Grant>]) -> bool
 }
 
 // The first place that holds no grant.
-pub fn first_vacant(grants: &[Option<Grant>]) -> Option<usize>
-    ensures { result ≡ place grants.now }
+fn first_vacant(grants: &[Option<Grant>]) -> Option<usize>
+    ensures is { result ≡ place grants.now }
+    ensures within { IfSome result (λ p. p < length grants.now) }
 {
     grants.iter().position(Option::is_none)
+}
+
+/// The check of a grant: its place among the ranges of its own bay. Whether it clashes is for the caller to say, who knows the others.
+pub fn check_grant(grant: Grant, own: &[Option<Grant>], clashes: bool) -> Result<usize, Refusal>
+    ensures is { result ≡ checked grant own.now clashes }
+    ensures within { IfOk result (λ p. p < length own.now) }
+{
+    if grant.first > grant.last {
+        return Err(Refusal::Reversed);
+    }
+    let place = first_vacant(own).ok_or(Refusal::Full)?;
+    if clashes {
+        return Err(Refusal::Clash);
+    }
+    Ok(place)
 }

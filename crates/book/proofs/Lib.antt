@@ -1,12 +1,12 @@
 pub mod Slots
-pub mod Gather
 pub mod Facts
 pub mod Entering
+pub mod Columns
 pub mod Keeping
 pub mod Limits
-pub mod Forth
+pub mod Layouts
 pub mod Looked
 pub mod Sole
-pub mod Again
-pub mod Made
-pub mod Trips
+pub mod EncodesBack
+pub mod Encoded
+pub mod RoundTrips

@@ -11,11 +11,11 @@ use Rattle.isa.proofs.Ranks.{rank_tells}
 use Rattle.book.specs.Patterns.{meets, clashes}
 use Rattle.book.specs.Sound.{between, reserved, legal_a, legal_l, legal_b, legal_pattern, free, parted}
 use Rattle.book.specs.Wholes.{whole_of, word_of}
-use Rattle.book.specs.Readings.{fits, pick, m_of, d_of, meaning}
+use Rattle.book.specs.Readings.{is_pattern, format_at, m_field, d_field, meaning}
 use Rattle.book.specs.Layout.{LaysL, LaysBitl, LaysWhole, Lays}
 use Rattle.book.proofs.Facts.{Facts}
 use Rattle.book.proofs.Entering.{legal_at}
-use Rattle.book.proofs.Forth.{fits_some}
+use Rattle.book.proofs.Layouts.{is_pattern-some}
 
 range : (low high k : ℕ) → between low high k ≡ true → (low ≤ k) × (k ≤ high)
 range low high k h = let p = and_parts (leb low k) (leb k high) h in (leb-true low k p.0, leb-true k high p.1)
@@ -44,19 +44,19 @@ pair i (p ∷ ps) (suc j) (suc k) u v h l a b =
     subst (λ x. meets x u (i + suc k) (Some v) ≡ false) q (subst (λ y. meets (i + 1 + j) u y (Some v) ≡ false) r (pair (i + 1) ps j k u v (and_parts (free i p ps) (parted (i + 1) ps) h).1 (omega arith) a b))
 
 -- so a pattern that would meet one that stands later is not there
-misses : (t : Tables) → Facts t → (j k u v : ℕ) → j < k → get_or t.patterns k None ≡ Some v → meets j u k (Some v) ≡ true → fits (get_or t.patterns j None) u ≡ false
+misses : (t : Tables) → Facts t → (j k u v : ℕ) → j < k → get_or t.patterns k None ≡ Some v → meets j u k (Some v) ≡ true → is_pattern (get_or t.patterns j None) u ≡ false
 misses t g j k u v l e m =
     ⊎_elim
     (λ h.
     let p : j ≡ 0 + j = omega arith in
     let q : k ≡ 0 + k = omega arith in
-    let c = pair 0 t.patterns j k u v g.p_parted l (fits_some _ u h) e in
+    let c = pair 0 t.patterns j k u v g.p_parted l (is_pattern-some _ u h) e in
     absurd (both_ways (meets (0 + j) u (0 + k) (Some v)) c (subst (λ x. meets x u (0 + k) (Some v) ≡ true) p (subst (λ y. meets j u y (Some v) ≡ true) q m))))
     (λ h. h)
-    (cases_Bool (fits (get_or t.patterns j None) u))
+    (cases_Bool (is_pattern (get_or t.patterns j None) u))
 
 -- an A word, whose number and pattern are found
-found_a : (t : Tables) (w k : ℕ) (n : Name) (f : Format) (m : ℕ) (d : ℤ) → legal_a k n ≡ true → get_or t.a k None ≡ Some n → w / 1024 ≡ k → pick t.patterns (w / 64 % 16) ≡ Some f → m_of f w ≡ m → d ≡ pos (d_of f w) → meaning t w ≡ Defined n f m d
+found_a : (t : Tables) (w k : ℕ) (n : Name) (f : Format) (m : ℕ) (d : ℤ) → legal_a k n ≡ true → get_or t.a k None ≡ Some n → w / 1024 ≡ k → format_at t.patterns (w / 64 % 16) ≡ Some f → m_field f w ≡ m → d ≡ pos (d_field f w) → meaning t w ≡ Defined n f m d
 found_a t w k n f m d h name q p m_is d_is =
     let b = range 16 63 k (and_parts (between 16 63 k) _ h).0 in
     let a1 = le-ltb w 1024 (omega arith) in
@@ -71,7 +71,7 @@ sole_a1 t g w n m d l =
     let h = legal_at legal_a t.a l.k n g.a_legal l.name in
     let b = range 16 63 l.k (and_parts (between 16 63 l.k) _ h).0 in
     let lim = ltb-true l.v 4 (legal_at legal_pattern t.patterns 0 l.v g.p_legal l.pattern) in
-    let own : fits (get_or t.patterns 0 None) (w / 64 % 16 / 4) ≡ true = ap (λ o. fits o (w / 64 % 16 / 4)) l.pattern ∙ eq-eqb l.v (w / 64 % 16 / 4) (omega arith) in
+    let own : is_pattern (get_or t.patterns 0 None) (w / 64 % 16 / 4) ≡ true = ap (λ o. is_pattern o (w / 64 % 16 / 4)) l.pattern ∙ eq-eqb l.v (w / 64 % 16 / 4) (omega arith) in
     let x : l.x ≡ w % 256 = omega arith in
     found_a t w l.k n A1 m d h l.name (omega arith) (simp own) (omega arith) (l.d_is ∙ ap pos x)
 
@@ -82,9 +82,9 @@ sole_a2 t g w n m d l =
     let h = legal_at legal_a t.a l.k n g.a_legal l.name in
     let b = range 16 63 l.k (and_parts (between 16 63 l.k) _ h).0 in
     let lim = ltb-true l.v 2 (legal_at legal_pattern t.patterns 1 l.v g.p_legal l.pattern) in
-    let own : fits (get_or t.patterns 1 None) (w / 64 % 16 / 8) ≡ true = ap (λ o. fits o (w / 64 % 16 / 8)) l.pattern ∙ eq-eqb l.v (w / 64 % 16 / 8) (omega arith) in
+    let own : is_pattern (get_or t.patterns 1 None) (w / 64 % 16 / 8) ≡ true = ap (λ o. is_pattern o (w / 64 % 16 / 8)) l.pattern ∙ eq-eqb l.v (w / 64 % 16 / 8) (omega arith) in
     let e0 : eqb ((w / 64 % 16 / 4) / 2) l.v ≡ true = eq-eqb ((w / 64 % 16 / 4) / 2) l.v (omega arith) in
-    let n0 : fits (get_or t.patterns 0 None) (w / 64 % 16 / 4) ≡ false = misses t g 0 1 (w / 64 % 16 / 4) l.v (omega arith) l.pattern (simp e0) in
+    let n0 : is_pattern (get_or t.patterns 0 None) (w / 64 % 16 / 4) ≡ false = misses t g 0 1 (w / 64 % 16 / 4) l.v (omega arith) l.pattern (simp e0) in
     let x : l.x ≡ w % 128 = omega arith in
     found_a t w l.k n A2 m d h l.name (omega arith) (simp (n0, own)) (omega arith) (l.d_is ∙ ap pos x)
 
@@ -95,11 +95,11 @@ sole_a3 t g w n m d l =
     let h = legal_at legal_a t.a l.k n g.a_legal l.name in
     let b = range 16 63 l.k (and_parts (between 16 63 l.k) _ h).0 in
     let lim = ltb-true l.v 16 (legal_at legal_pattern t.patterns 2 l.v g.p_legal l.pattern) in
-    let own : fits (get_or t.patterns 2 None) (w / 64 % 16) ≡ true = ap (λ o. fits o (w / 64 % 16)) l.pattern ∙ eq-eqb l.v (w / 64 % 16) (omega arith) in
+    let own : is_pattern (get_or t.patterns 2 None) (w / 64 % 16) ≡ true = ap (λ o. is_pattern o (w / 64 % 16)) l.pattern ∙ eq-eqb l.v (w / 64 % 16) (omega arith) in
     let e0 : eqb (l.v / 4) (w / 64 % 16 / 4) ≡ true = eq-eqb (l.v / 4) (w / 64 % 16 / 4) (omega arith) in
-    let n0 : fits (get_or t.patterns 0 None) (w / 64 % 16 / 4) ≡ false = misses t g 0 2 (w / 64 % 16 / 4) l.v (omega arith) l.pattern (simp e0) in
+    let n0 : is_pattern (get_or t.patterns 0 None) (w / 64 % 16 / 4) ≡ false = misses t g 0 2 (w / 64 % 16 / 4) l.v (omega arith) l.pattern (simp e0) in
     let e1 : eqb (l.v / 8) (w / 64 % 16 / 8) ≡ true = eq-eqb (l.v / 8) (w / 64 % 16 / 8) (omega arith) in
-    let n1 : fits (get_or t.patterns 1 None) (w / 64 % 16 / 8) ≡ false = misses t g 1 2 (w / 64 % 16 / 8) l.v (omega arith) l.pattern (simp e1) in
+    let n1 : is_pattern (get_or t.patterns 1 None) (w / 64 % 16 / 8) ≡ false = misses t g 1 2 (w / 64 % 16 / 8) l.v (omega arith) l.pattern (simp e1) in
     let x : l.x ≡ w % 64 = omega arith in
     found_a t w l.k n A3 m d h l.name (omega arith) (simp (n0, n1, own)) (omega arith) (l.d_is ∙ ap pos x)
 
@@ -110,13 +110,13 @@ sole_a4 t g w n m d l =
     let h = legal_at legal_a t.a l.k n g.a_legal l.name in
     let b = range 16 63 l.k (and_parts (between 16 63 l.k) _ h).0 in
     let lim = ltb-true l.v 8 (legal_at legal_pattern t.patterns 3 l.v g.p_legal l.pattern) in
-    let own : fits (get_or t.patterns 3 None) (w / 64 % 16 / 2) ≡ true = ap (λ o. fits o (w / 64 % 16 / 2)) l.pattern ∙ eq-eqb l.v (w / 64 % 16 / 2) (omega arith) in
+    let own : is_pattern (get_or t.patterns 3 None) (w / 64 % 16 / 2) ≡ true = ap (λ o. is_pattern o (w / 64 % 16 / 2)) l.pattern ∙ eq-eqb l.v (w / 64 % 16 / 2) (omega arith) in
     let e0 : eqb (l.v / 2) (w / 64 % 16 / 4) ≡ true = eq-eqb (l.v / 2) (w / 64 % 16 / 4) (omega arith) in
-    let n0 : fits (get_or t.patterns 0 None) (w / 64 % 16 / 4) ≡ false = misses t g 0 3 (w / 64 % 16 / 4) l.v (omega arith) l.pattern (simp e0) in
+    let n0 : is_pattern (get_or t.patterns 0 None) (w / 64 % 16 / 4) ≡ false = misses t g 0 3 (w / 64 % 16 / 4) l.v (omega arith) l.pattern (simp e0) in
     let e1 : eqb (l.v / 4) (w / 64 % 16 / 8) ≡ true = eq-eqb (l.v / 4) (w / 64 % 16 / 8) (omega arith) in
-    let n1 : fits (get_or t.patterns 1 None) (w / 64 % 16 / 8) ≡ false = misses t g 1 3 (w / 64 % 16 / 8) l.v (omega arith) l.pattern (simp e1) in
+    let n1 : is_pattern (get_or t.patterns 1 None) (w / 64 % 16 / 8) ≡ false = misses t g 1 3 (w / 64 % 16 / 8) l.v (omega arith) l.pattern (simp e1) in
     let e2 : eqb ((w / 64 % 16) / 2) l.v ≡ true = eq-eqb ((w / 64 % 16) / 2) l.v (omega arith) in
-    let n2 : fits (get_or t.patterns 2 None) (w / 64 % 16) ≡ false = misses t g 2 3 (w / 64 % 16) l.v (omega arith) l.pattern (simp e2) in
+    let n2 : is_pattern (get_or t.patterns 2 None) (w / 64 % 16) ≡ false = misses t g 2 3 (w / 64 % 16) l.v (omega arith) l.pattern (simp e2) in
     let x : l.x ≡ w % 32 = omega arith in
     found_a t w l.k n A4 m d h l.name (omega arith) (simp (n0, n1, n2, own)) (omega arith) (l.d_is ∙ ap pos x)
 
@@ -127,15 +127,15 @@ sole_a5 t g w n m d l =
     let h = legal_at legal_a t.a l.k n g.a_legal l.name in
     let b = range 16 63 l.k (and_parts (between 16 63 l.k) _ h).0 in
     let lim = ltb-true l.v 16 (legal_at legal_pattern t.patterns 4 l.v g.p_legal l.pattern) in
-    let own : fits (get_or t.patterns 4 None) (w / 64 % 16) ≡ true = ap (λ o. fits o (w / 64 % 16)) l.pattern ∙ eq-eqb l.v (w / 64 % 16) (omega arith) in
+    let own : is_pattern (get_or t.patterns 4 None) (w / 64 % 16) ≡ true = ap (λ o. is_pattern o (w / 64 % 16)) l.pattern ∙ eq-eqb l.v (w / 64 % 16) (omega arith) in
     let e0 : eqb (l.v / 4) (w / 64 % 16 / 4) ≡ true = eq-eqb (l.v / 4) (w / 64 % 16 / 4) (omega arith) in
-    let n0 : fits (get_or t.patterns 0 None) (w / 64 % 16 / 4) ≡ false = misses t g 0 4 (w / 64 % 16 / 4) l.v (omega arith) l.pattern (simp e0) in
+    let n0 : is_pattern (get_or t.patterns 0 None) (w / 64 % 16 / 4) ≡ false = misses t g 0 4 (w / 64 % 16 / 4) l.v (omega arith) l.pattern (simp e0) in
     let e1 : eqb (l.v / 8) (w / 64 % 16 / 8) ≡ true = eq-eqb (l.v / 8) (w / 64 % 16 / 8) (omega arith) in
-    let n1 : fits (get_or t.patterns 1 None) (w / 64 % 16 / 8) ≡ false = misses t g 1 4 (w / 64 % 16 / 8) l.v (omega arith) l.pattern (simp e1) in
+    let n1 : is_pattern (get_or t.patterns 1 None) (w / 64 % 16 / 8) ≡ false = misses t g 1 4 (w / 64 % 16 / 8) l.v (omega arith) l.pattern (simp e1) in
     let e2 : eqb (l.v / 1) (w / 64 % 16) ≡ true = eq-eqb (l.v / 1) (w / 64 % 16) (omega arith) in
-    let n2 : fits (get_or t.patterns 2 None) (w / 64 % 16) ≡ false = misses t g 2 4 (w / 64 % 16) l.v (omega arith) l.pattern (simp e2) in
+    let n2 : is_pattern (get_or t.patterns 2 None) (w / 64 % 16) ≡ false = misses t g 2 4 (w / 64 % 16) l.v (omega arith) l.pattern (simp e2) in
     let e3 : eqb (l.v / 2) (w / 64 % 16 / 2) ≡ true = eq-eqb (l.v / 2) (w / 64 % 16 / 2) (omega arith) in
-    let n3 : fits (get_or t.patterns 3 None) (w / 64 % 16 / 2) ≡ false = misses t g 3 4 (w / 64 % 16 / 2) l.v (omega arith) l.pattern (simp e3) in
+    let n3 : is_pattern (get_or t.patterns 3 None) (w / 64 % 16 / 2) ≡ false = misses t g 3 4 (w / 64 % 16 / 2) l.v (omega arith) l.pattern (simp e3) in
     let x : l.x ≡ w % 16 = omega arith in
     found_a t w l.k n A5 m d h l.name (omega arith) (simp (n0, n1, n2, n3, own)) (omega arith) (l.d_is ∙ ap pos x)
 

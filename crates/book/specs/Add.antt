@@ -1,47 +1,50 @@
-use Rattle.std.specs.Prelude.{ℕ, cond, List, length, Some, None, Ok, Err, Option, Result, ◌==◌, slice_index, slice_set}
-use Rattle.isa.specs.declared.name.Name.{Name}
+-- What a line adds to the tables.
+use Rattle.std.specs.Prelude.{ℕ, List, [], ◌∷◌, Some, None, Ok, Err, Option, Result, ◌==◌, slice_set, if◌then◌else◌}
+use Rattle.std.specs.Option.{ok_or}
+use Rattle.isa.specs.declared.name.Name as isa
 use Rattle.isa.specs.Formats.{format_of}
 use Rattle.isa.specs.declared.letter.Letter.{Letter}
 use Rattle.isa.specs.declared.letter.Letter.TheVariants as letter
-use Rattle.isa.specs.Names.{named}
+use Rattle.isa.specs.Names.{name_under}
 use Rattle.text.specs.Search.{Bytes}
 use Rattle.text.specs.Numbers.{number_of}
+use Rattle.text.specs.Results.{◌>>=◌}
+use Rattle.book.specs.declared.fault.Fault.{Fault}
+use Rattle.book.specs.declared.fault.Fault.TheVariants.{Name, Value, Repeated}
 use Rattle.book.specs.declared.tables.Tables.{Tables}
+use Rattle.book.specs.Columns.{FieldTexts}
 use Rattle.book.specs.Rows.{taken}
 use Rattle.book.specs.Patterns.{place_of, length_at, pattern_of, clashes}
 use Rattle.book.specs.Sound.{reserved}
 
--- what is there, or a refusal
-abbrev pub need : {X Y : Type 0} → Option X → ℕ → (X → Result Y ℕ) → Result Y ℕ
-need None e f = Err e
-need (Some x) e f = f x
-
 -- the table of a letter, how many numbers it has, and the tables with another one
-abbrev pub rows_of : Letter → Tables → List (Option Name)
+abbrev pub rows_of : Letter → Tables → List (Option isa.Name)
 rows_of letter.A t = t.a
 rows_of letter.L t = t.l
 rows_of letter.B t = t.b
 
-abbrev pub rows : Letter → ℕ
-rows letter.A = 64
-rows letter.L = 64
-rows letter.B = 4
+abbrev pub row_count : Letter → ℕ
+row_count letter.A = 64
+row_count letter.L = 64
+row_count letter.B = 4
 
-abbrev pub with_rows : Letter → Tables → List (Option Name) → Tables
-with_rows letter.A t r = record { a = r; l = t.l; b = t.b; patterns = t.patterns }
-with_rows letter.L t r = record { a = t.a; l = r; b = t.b; patterns = t.patterns }
-with_rows letter.B t r = record { a = t.a; l = t.l; b = r; patterns = t.patterns }
+abbrev pub with_rows : Letter → Tables → List (Option isa.Name) → Tables
+with_rows letter.A t r = record t { a = r }
+with_rows letter.L t r = record t { l = r }
+with_rows letter.B t r = record t { b = r }
 
-abbrev pub with_p : Tables → List (Option ℕ) → Tables
-with_p t r = record { a = t.a; l = t.l; b = t.b; patterns = r }
-
--- a line of a letter: its name, its value, and whether both are new
-abbrev pub add_f : Tables → Bytes → Bytes → Result Tables ℕ
-add_f t name value = need (format_of name) 12 (λ f. need (place_of f) 12 (λ i. need (pattern_of (length_at i) value) 13 (λ v. cond (clashes i v 0 t.patterns) (Err 14) (Ok (with_p t (slice_set t.patterns i (Some v)))))))
+-- a line that has the pattern of a format
+abbrev pub add_pattern : Tables → Bytes → Bytes → Result Tables Fault
+add_pattern t name value = do
+  format ← ok_or (format_of name) Name
+  place ← ok_or (place_of format) Name
+  v ← ok_or (pattern_of (length_at place) value) Value
+  if clashes place v 0 t.patterns then Err Repeated
+      else Ok (record t { patterns = slice_set t.patterns place (Some v) })
 
 abbrev pub unreserved : Option ℕ → Option ℕ
 unreserved None = None
-unreserved (Some k) = cond (reserved k) None (Some k)
+unreserved (Some k) = if reserved k then None else Some k
 
 -- the number that a name of a letter may have
 abbrev pub number_under : Letter → Bytes → Option ℕ
@@ -49,12 +52,27 @@ number_under letter.A s = number_of 16 63 s
 number_under letter.L s = unreserved (number_of 16 63 s)
 number_under letter.B s = number_of 1 3 s
 
-abbrev pub add_name : Letter → Tables → Bytes → Bytes → Result Tables ℕ
-add_name c t name value = need (named c name) 12 (λ n. need (number_under c value) 13 (λ k. cond (taken (rows_of c t) n k) (Err 14) (Ok (with_rows c t (slice_set (rows_of c t) k (Some n))))))
+-- a line that has the number of a name; both are new
+abbrev pub add_name : Letter → Tables → Bytes → Bytes → Result Tables Fault
+add_name c t name value = do
+  n ← ok_or (name_under c name) Name
+  k ← ok_or (number_under c value) Value
+  if taken (rows_of c t) n k then Err Repeated
+      else Ok (with_rows c t (slice_set (rows_of c t) k (Some n)))
 
-abbrev pub by_letter : ℕ → Tables → Bytes → Bytes → Result Tables ℕ
-by_letter c t name value = cond (c == 70) (add_f t name value) (cond (c == 65) (add_name letter.A t name value) (cond (c == 76) (add_name letter.L t name value) (cond (c == 66) (add_name letter.B t name value) (Err 12))))
+-- F, A, L and B are 70, 65, 76 and 66
+abbrev pub by_letter : ℕ → Tables → Bytes → Bytes → Result Tables Fault
+by_letter c t name value =
+    if c == 70 then add_pattern t name value
+    else if c == 65 then add_name letter.A t name value
+    else if c == 76 then add_name letter.L t name value
+    else if c == 66 then add_name letter.B t name value
+    else Err Name
 
--- the letter is F, A, L or B, and nothing follows it
-abbrev pub added : Tables → Bytes → Bytes → Bytes → Result Tables ℕ
-added t letter name value = cond (length letter == 1) (by_letter (slice_index letter 0) t name value) (Err 12)
+-- the first field is a letter, and nothing follows it
+abbrev pub by_first : Bytes → Tables → Bytes → Bytes → Result Tables Fault
+by_first (c ∷ []) t name value = by_letter c t name value
+by_first _ t name value = Err Name
+
+abbrev pub added : Tables → FieldTexts → Result Tables Fault
+added t f = by_first f.letter t f.name f.value

@@ -1,27 +1,28 @@
-use Rattle.std.specs.Prelude.{cond, ◌||◌, length, Some, None, Option, nat_lt}
-use Rattle.text.specs.Search.{Bytes, place, cut_at, empty}
+-- The fields of a line.
+use Rattle.std.specs.Prelude.{◌||◌, List, [], ◌∷◌, Some, None, Option, if◌then◌else◌}
+use Rattle.text.specs.Search.{Bytes, empty, parts}
 use Rattle.book.specs.declared.fields.Fields.{Fields}
 
-abbrev pub Three : Type 0
-Three = Bytes × Bytes × Bytes
+pub record FieldTexts : Type 0 where
+  pub letter : Bytes
+  pub name : Bytes
+  pub value : Bytes
 
--- three fields that are not empty, and no tab in the last
-abbrev pub whole : Bytes → Bytes → Bytes → Option Three
-whole a b c = cond (empty a || (empty b || (empty c || nat_lt (place 9 c) (length c)))) None (Some (a, b, c))
+-- just three fields, none of them empty
+abbrev pub three_fields : List Bytes → Option FieldTexts
+three_fields (a ∷ b ∷ c ∷ []) =
+    if empty a || (empty b || empty c) then None
+    else Some (record { letter = a; name = b; value = c })
+three_fields _ = None
 
-abbrev pub three_2 : Bytes → Option (Bytes × Bytes) → Option Three
-three_2 a None = None
-three_2 a (Some p) = whole a p.0 p.1
+-- the fields of a line, which tabs part
+abbrev pub line_fields : Bytes → Option FieldTexts
+line_fields s = three_fields (parts 9 s)
 
-abbrev pub three_1 : Option (Bytes × Bytes) → Option Three
-three_1 None = None
-three_1 (Some p) = three_2 p.0 (cut_at 9 p.1)
+-- the bytes that borrowed fields hold
+abbrev pub texts : Fields → FieldTexts
+texts f = record { letter = f.letter.now; name = f.name.now; value = f.value.now }
 
--- the three fields of a line, which tabs part
-abbrev pub three : Bytes → Option Three
-three s = three_1 (cut_at 9 s)
-
--- the bytes that the fields hold
-abbrev pub texts : Option Fields → Option Three
-texts None = None
-texts (Some f) = Some (f.letter.now, f.name.now, f.value.now)
+abbrev pub field_texts : Option Fields → Option FieldTexts
+field_texts None = None
+field_texts (Some f) = Some (texts f)

@@ -7,6 +7,6 @@ pub mod Add
 pub mod Read
 pub mod Wholes
 pub mod Readings
-pub mod Put
+pub mod Encode
 pub mod Layout
 pub mod Laws

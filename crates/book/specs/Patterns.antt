@@ -1,4 +1,4 @@
-use Rattle.std.specs.Prelude.{ℕ, ◌+◌, ◌-◌, ◌*◌, ◌/◌, ◌^◌, Bool, false, cond, ◌&&◌, ◌||◌, List, [], ◌∷◌, length, is_some, Some, None, Option, ◌==◌, nat_le}
+use Rattle.std.specs.Prelude.{ℕ, ◌+◌, ◌-◌, ◌*◌, ◌/◌, ◌^◌, Bool, false, ◌&&◌, ◌||◌, List, [], ◌∷◌, length, is_some, Some, None, Option, ◌==◌, nat_le, if◌then◌else◌}
 use Rattle.std.specs.List.{enumerate_from, list_all, list_any}
 use Rattle.isa.specs.declared.format.Format.{Format}
 use Rattle.isa.specs.declared.format.Format.TheVariants.{A1, A2, A3, A4, A5, L, B}
@@ -16,15 +16,15 @@ place_of B = None
 
 -- how many characters the pattern of a place has: 2, 1, 4, 3 and 4
 abbrev pub length_at : ℕ → ℕ
-length_at i = cond (i == 0) 2 (cond (i == 1) 1 (cond (i == 3) 3 4))
+length_at i = if i == 0 then 2 else if i == 1 then 1 else if i == 3 then 3 else 4
 
 -- the characters 0 and 1 that follow the number n
 abbrev pub bits : ℕ → Bytes → Option ℕ
 bits n [] = Some n
-bits n (d ∷ ds) = cond (d == 48) (bits (n * 2) ds) (cond (d == 49) (bits (n * 2 + 1) ds) None)
+bits n (d ∷ ds) = if d == 48 then bits (n * 2) ds else if d == 49 then bits (n * 2 + 1) ds else None
 
 abbrev pub pattern_of : ℕ → Bytes → Option ℕ
-pattern_of len s = cond (length s == len) (bits 0 s) None
+pattern_of len s = if length s == len then bits 0 s else None
 
 -- the pattern v of place f begins the pattern u of place g
 abbrev pub begins : ℕ → ℕ → ℕ → ℕ → Bool

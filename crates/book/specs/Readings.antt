@@ -1,4 +1,4 @@
-use Rattle.std.specs.Prelude.{ℕ, zero, suc, ◌+◌, ◌/◌, ◌%◌, Bool, false, cond, List, [], ◌∷◌, pos, Some, None, Option, ◌==◌, nat_lt, slice_index_or}
+use Rattle.std.specs.Prelude.{ℕ, zero, suc, ◌+◌, ◌/◌, ◌%◌, Bool, false, List, [], ◌∷◌, pos, Some, None, Option, ◌==◌, nat_lt, slice_index_or, if◌then◌else◌}
 use Rattle.isa.specs.declared.name.Name.{Name}
 use Rattle.isa.specs.declared.name.Name.TheVariants.{Bitl}
 use Rattle.isa.specs.declared.format.Format.{Format}
@@ -10,60 +10,76 @@ use Rattle.book.specs.declared.tables.Tables.{Tables}
 use Rattle.book.specs.Wholes.{whole_of, l_d}
 
 -- format B: the number in bits 4 and 5, and a signed D in the other ten
-abbrev pub in_b : Option Name → ℕ → Reading
-in_b None w = Undefined
-in_b (Some n) w = Defined n B 0 (as_signed 512 (w % 1024))
+abbrev pub b_reading : Option Name → ℕ → Reading
+b_reading None w = Undefined
+b_reading (Some n) w = Defined n B 0 (as_signed 512 (w % 1024))
 
 -- format L: the number in bits 2 to 7, and D in the other eight
-abbrev pub by_l : Option Name → ℕ → Reading
-by_l None w = Undefined
-by_l (Some n) w = Defined n L 0 (l_d n (w % 256))
+abbrev pub named_l_reading : Option Name → ℕ → Reading
+named_l_reading None w = Undefined
+named_l_reading (Some n) w = Defined n L 0 (l_d n (w % 256))
 
-abbrev pub by_whole : Option Name → Tables → ℕ → Reading
-by_whole (Some n) t w = Defined n L 0 (pos 0)
-by_whole None t w = cond (w / 256 == 22) (Defined Bitl L 0 (pos (w % 256))) (by_l (slice_index_or t.l (w / 256) None) w)
+abbrev pub l_reading_by : Option Name → Tables → ℕ → Reading
+l_reading_by (Some n) t w = Defined n L 0 (pos 0)
+l_reading_by None t w =
+    if w / 256 == 22 then Defined Bitl L 0 (pos (w % 256))
+    else named_l_reading (slice_index_or t.l (w / 256) None) w
 
-abbrev pub in_l : Tables → ℕ → Reading
-in_l t w = by_whole (whole_of w) t w
+abbrev pub l_reading : Tables → ℕ → Reading
+l_reading t w = l_reading_by (whole_of w) t w
 
-abbrev pub fits : Option ℕ → ℕ → Bool
-fits None x = false
-fits (Some v) x = v == x
+-- the bits are the pattern
+abbrev pub is_pattern : Option ℕ → ℕ → Bool
+is_pattern None x = false
+is_pattern (Some v) x = v == x
 
 -- the format whose pattern begins the four bits
-abbrev pub pick : List (Option ℕ) → ℕ → Option Format
-pick ps x = cond (fits (slice_index_or ps 0 None) (x / 4)) (Some A1) (cond (fits (slice_index_or ps 1 None) (x / 8)) (Some A2) (cond (fits (slice_index_or ps 2 None) x) (Some A3) (cond (fits (slice_index_or ps 3 None) (x / 2)) (Some A4) (cond (fits (slice_index_or ps 4 None) x) (Some A5) None))))
+abbrev pub format_at : List (Option ℕ) → ℕ → Option Format
+format_at ps x =
+    if is_pattern (slice_index_or ps 0 None) (x / 4) then Some A1
+    else if is_pattern (slice_index_or ps 1 None) (x / 8) then Some A2
+    else if is_pattern (slice_index_or ps 2 None) x then Some A3
+    else if is_pattern (slice_index_or ps 3 None) (x / 2) then Some A4
+    else if is_pattern (slice_index_or ps 4 None) x then Some A5
+    else None
 
-abbrev pub m_of : Format → ℕ → ℕ
-m_of A1 w = 0
-m_of A2 w = w / 128 % 4
-m_of A3 w = 0
-m_of A4 w = w / 32 % 4
-m_of A5 w = w / 16 % 4
-m_of L w = 0
-m_of B w = 0
+abbrev pub m_field : Format → ℕ → ℕ
+m_field A1 w = 0
+m_field A2 w = w / 128 % 4
+m_field A3 w = 0
+m_field A4 w = w / 32 % 4
+m_field A5 w = w / 16 % 4
+m_field L w = 0
+m_field B w = 0
 
-abbrev pub d_of : Format → ℕ → ℕ
-d_of A1 w = w % 256
-d_of A2 w = w % 128
-d_of A3 w = w % 64
-d_of A4 w = w % 32
-d_of A5 w = w % 16
-d_of L w = 0
-d_of B w = 0
+abbrev pub d_field : Format → ℕ → ℕ
+d_field A1 w = w % 256
+d_field A2 w = w % 128
+d_field A3 w = w % 64
+d_field A4 w = w % 32
+d_field A5 w = w % 16
+d_field L w = 0
+d_field B w = 0
 
-abbrev pub by_a : Option Name → Format → ℕ → Reading
-by_a None f w = Undefined
-by_a (Some n) f w = Defined n f (m_of f w) (pos (d_of f w))
+abbrev pub named_a_reading : Option Name → Format → ℕ → Reading
+named_a_reading None f w = Undefined
+named_a_reading (Some n) f w = Defined n f (m_field f w) (pos (d_field f w))
 
 -- format A: the number in bits 0 to 5, the pattern from bit 6 on
-abbrev pub in_a : Option Format → Tables → ℕ → Reading
-in_a None t w = NoPattern
-in_a (Some f) t w = by_a (slice_index_or t.a (w / 1024) None) f w
+abbrev pub a_reading_by : Option Format → Tables → ℕ → Reading
+a_reading_by None t w = NoPattern
+a_reading_by (Some f) t w = named_a_reading (slice_index_or t.a (w / 1024) None) f w
+
+abbrev pub a_reading : Tables → ℕ → Reading
+a_reading t w = a_reading_by (format_at t.patterns (w / 64 % 16)) t w
 
 -- bits 0 to 5 zero, bits 0 to 3 zero, bits 0 and 1 zero, and the rest
 abbrev pub meaning : Tables → ℕ → Reading
-meaning t w = cond (nat_lt w 1024) Undefined (cond (nat_lt w 4096) (in_b (slice_index_or t.b (w / 1024) None) w) (cond (nat_lt w 16384) (in_l t w) (in_a (pick t.patterns (w / 64 % 16)) t w)))
+meaning t w =
+    if nat_lt w 1024 then Undefined
+    else if nat_lt w 4096 then b_reading (slice_index_or t.b (w / 1024) None) w
+    else if nat_lt w 16384 then l_reading t w
+    else a_reading t w
 
 -- what a word means under the tables
 unfoldable pub reading : Tables → ℕ → Reading

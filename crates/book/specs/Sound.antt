@@ -12,7 +12,8 @@ between low high k = nat_le low k && nat_le k high
 abbrev pub reserved : ℕ → Bool
 reserved k = k == 18 || (k == 22 || (k == 23 || (k == 39 || k == 55)))
 
--- a number and a name that go together under each letter; by rank the A names come first, then the L names, B and BL
+-- a number and a name that go together under each letter; by rank the A names come first, then those of L
+-- and of B
 abbrev pub legal_a : ℕ → Name → Bool
 legal_a k n = between 16 63 k && between 0 30 (rank n)
 
@@ -53,6 +54,10 @@ abbrev pub parted : ℕ → List (Option ℕ) → Bool
 parted i [] = true
 parted i (p ∷ ps) = free i p ps && parted (i + 1) ps
 
--- every number and name is legal, no name stands twice, every pattern has its length, and none begins another
+-- numbers and names are legal, no name stands twice, patterns have their lengths, and none begins another
 abbrev pub sound : Tables → Bool
-sound t = (entries legal_a 0 t.a && apart t.a) && ((entries legal_l 0 t.l && apart t.l) && ((entries legal_b 0 t.b && apart t.b) && (entries legal_pattern 0 t.patterns && parted 0 t.patterns)))
+sound t =
+    (entries legal_a 0 t.a && apart t.a)
+    && ((entries legal_l 0 t.l && apart t.l)
+    && ((entries legal_b 0 t.b && apart t.b)
+    && (entries legal_pattern 0 t.patterns && parted 0 t.patterns)))

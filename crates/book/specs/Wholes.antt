@@ -1,4 +1,4 @@
-use Rattle.std.specs.Prelude.{ℕ, Bool, cond, ◌&&◌, List, [], ◌∷◌, ℤ, pos, Some, None, Option, ◌==◌, nat_le}
+use Rattle.std.specs.Prelude.{ℕ, Bool, ◌&&◌, List, [], ◌∷◌, ℤ, pos, Some, None, Option, ◌==◌, nat_le, if◌then◌else◌}
 use Rattle.isa.specs.declared.name.Name.{Name}
 use Rattle.isa.specs.declared.name.Name.TheVariants.{Bz, Bof, Mbs, Cpbs, Trbs, Scbs, Mhs, Rk, Hrk, Sfn, Sim, Sfm}
 use Rattle.isa.specs.Names.{rank}
@@ -6,16 +6,18 @@ use Rattle.word.specs.Fields.{as_signed}
 
 -- the words that are one instruction each, in every book
 abbrev pub whole_words : List (Name × ℕ)
-whole_words = (Mbs, 0x2700) ∷ (Cpbs, 0x2740) ∷ (Trbs, 0x2780) ∷ (Scbs, 0x27c0) ∷ (Mhs, 0x3700) ∷ (Rk, 0x1200) ∷ (Hrk, 0x1201) ∷ (Sfn, 0x1202) ∷ (Sim, 0x1700) ∷ (Sfm, 0x1701) ∷ []
+whole_words =
+    (Mbs, 0x2700) ∷ (Cpbs, 0x2740) ∷ (Trbs, 0x2780) ∷ (Scbs, 0x27c0) ∷ (Mhs, 0x3700)
+    ∷ (Rk, 0x1200) ∷ (Hrk, 0x1201) ∷ (Sfn, 0x1202) ∷ (Sim, 0x1700) ∷ (Sfm, 0x1701) ∷ []
 
 -- the name of a whole word, and the word of a name
 abbrev pub whole_in : List (Name × ℕ) → ℕ → Option Name
 whole_in [] w = None
-whole_in (r ∷ rs) w = cond (w == r.1) (Some r.0) (whole_in rs w)
+whole_in (r ∷ rs) w = if w == r.1 then Some r.0 else whole_in rs w
 
 abbrev pub word_in : List (Name × ℕ) → Name → Option ℕ
 word_in [] n = None
-word_in (r ∷ rs) n = cond (rank r.0 == rank n) (Some r.1) (word_in rs n)
+word_in (r ∷ rs) n = if rank r.0 == rank n then Some r.1 else word_in rs n
 
 abbrev pub whole_of : ℕ → Option Name
 whole_of w = whole_in whole_words w
@@ -29,4 +31,4 @@ branches n = nat_le (rank Bz) (rank n) && nat_le (rank n) (rank Bof)
 
 -- what a D of eight bits means, which the branches have signed
 abbrev pub l_d : Name → ℕ → ℤ
-l_d n d = cond (branches n) (as_signed 128 d) (pos d)
+l_d n d = if branches n then as_signed 128 d else pos d

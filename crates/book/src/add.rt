@@ -1,11 +1,13 @@
 ghost use Rattle.std.specs.Prelude.{◌≡◌, ◌<◌, IfSome};
-ghost use Rattle.book.specs.Add.{added, add_f, number_under, rows};
+ghost use Rattle.book.specs.Add as spec;
+ghost use Rattle.book.specs.Add.{added, number_under, row_count};
+ghost use Rattle.book.specs.Columns.{texts};
 ghost use Rattle.book.specs.Sound.{reserved};
-ghost use Rattle.book.specs.Faults.{left};
+ghost use Rattle.text.specs.TakeLine.{outcome};
 
+use crate::fault::Fault;
 use crate::fields::Fields;
 use crate::patterns::{clash, pattern, pattern_length, pattern_place};
-use crate::refused::Fault;
 use crate::rows::enter;
 use crate::tables::Tables;
 use isa::{Format, Letter};
@@ -21,7 +23,7 @@ fn is_reserved(number: u32) -> bool
 // The number that a name of the letter may have.
 fn number_for(letter: Letter, value: &[u8]) -> Option<u32>
     ensures is { result ≡ number_under letter value.now }
-    ensures within { IfSome result (λ k. k < rows letter) }
+    ensures within { IfSome result (λ k. k < row_count letter) }
 {
     match letter {
         Letter::A => decimal(value, 16, 63),
@@ -32,7 +34,7 @@ fn number_for(letter: Letter, value: &[u8]) -> Option<u32>
 
 impl Tables {
     fn add_pattern(&mut self, name: &[u8], value: &[u8]) -> Result<(), Fault>
-        ensures { left result self.new ≡ add_f self.old name.now value.now }
+        ensures { outcome result self.new ≡ spec.add_pattern self.old name.now value.now }
     {
         let format = Format::try_from(name)?;
         let place = pattern_place(format).ok_or(Fault::Name)?;
@@ -45,7 +47,7 @@ impl Tables {
     }
 
     fn add_name(&mut self, letter: Letter, name: &[u8], value: &[u8]) -> Result<(), Fault>
-        ensures { left result self.new ≡ Rattle.book.specs.Add.add_name letter self.old name.now value.now }
+        ensures { outcome result self.new ≡ spec.add_name letter self.old name.now value.now }
     {
         let name = letter.name(name).ok_or(Fault::Name)?;
         let number = number_for(letter, value).ok_or(Fault::Value)?;
@@ -58,16 +60,16 @@ impl Tables {
 
     // The letter says which names a line may have, and how its value is read.
     pub(crate) fn add(&mut self, f: Fields) -> Result<(), Fault>
-        ensures { left result self.new ≡ added self.old f.entry.letter.now f.entry.name.now f.entry.value.now }
+        ensures { outcome result self.new ≡ added self.old (texts f.entry) }
     {
         let [letter] = f.letter else {
             return Err(Fault::Name);
         };
-        match *letter {
-            b'F' => self.add_pattern(f.name, f.value),
-            b'A' => self.add_name(Letter::A, f.name, f.value),
-            b'L' => self.add_name(Letter::L, f.name, f.value),
-            b'B' => self.add_name(Letter::B, f.name, f.value),
+        match char::from(*letter) {
+            'F' => self.add_pattern(f.name, f.value),
+            'A' => self.add_name(Letter::A, f.name, f.value),
+            'L' => self.add_name(Letter::L, f.name, f.value),
+            'B' => self.add_name(Letter::B, f.name, f.value),
             _ => Err(Fault::Name),
         }
     }

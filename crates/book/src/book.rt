@@ -7,8 +7,8 @@ use crate::readings::Readings;
 use crate::tables::Tables;
 use std::alloc::Global;
 
-// A code book: which names have which numbers, and how the formats are told apart. It has no model: seen as its
-// tables alone it would hide from proofs that they are sound.
+/// A code book: which names have which numbers, and how the formats are told apart.
+// It has no model: seen as its tables alone it would hide from proofs that they are sound.
 #[derive(Drop)]
 pub struct Book {
     pub tables: Tables,
@@ -18,7 +18,7 @@ pub struct Book {
 }
 
 impl Book {
-    // From here on a word is looked up, in 384 KiB, and not read anew. Nothing else changes; where there is no memory for it, not even that.
+    /// From here on a word is looked up, in 384 KiB, and not read anew. Nothing else changes; where there is no memory for it, not even that.
     pub fn tabulate(&mut self, alloc: Global)
         ensures { self.new.tables ≡ self.old.tables }
     {

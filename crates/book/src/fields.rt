@@ -1,9 +1,9 @@
 ghost use Rattle.std.specs.Prelude.{◌≡◌};
-ghost use Rattle.book.specs.Columns.{three, texts};
+ghost use Rattle.book.specs.Columns.{line_fields, field_texts};
 
 use text::cut;
 
-// The three fields of a line.
+/// The three fields of a line.
 #[derive(Clone, Copy, Debug, PartialEq, Eq)]
 pub struct Fields<'a> {
     pub letter: &'a [u8],
@@ -11,9 +11,10 @@ pub struct Fields<'a> {
     pub value: &'a [u8],
 }
 
-// A line has just three fields, none of them empty, and every tab parts two fields.
+/// A line has just three fields, none of them empty, and every tab parts two fields.
+#[tactic(auto, using(crate::proofs::Columns::by_cuts))]
 pub fn fields_by_tab(line: &[u8]) -> Option<Fields<'_>>
-    ensures { texts result ≡ three line.now }
+    ensures { field_texts result ≡ line_fields line.now }
 {
     let (letter, rest) = cut(line, b'\t')?;
     let (name, value) = cut(rest, b'\t')?;

@@ -1,20 +1,23 @@
+// The code book: which numbers the names of instructions have, and which patterns tell formats A1 to A5 apart. It is read from a text,
+// and under it a word is read (`Book::reading`) and encoded (`Book::encode`). Begin with `Book`; specs/Layout.antt says which words are
+// which instructions, and each contract of the two is proved against it.
 #![tactic(auto)]
 
 mod add;
 mod book;
+mod encode;
+mod encode_error;
+mod fault;
 mod fields;
 mod patterns;
-mod put;
 mod read;
 mod reading;
 mod readings;
-mod refused;
 mod rows;
 mod tables;
-mod unput;
 mod whole;
 
 pub use book::Book;
-pub use refused::{Fault, Refused};
+pub use encode_error::EncodeError;
+pub use fault::{Fault, Refused};
 pub use tables::Tables;
-pub use unput::EncodeError;

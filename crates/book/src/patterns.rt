@@ -3,8 +3,8 @@ ghost use Rattle.book.specs.Patterns.{place_of, length_at, pattern_of, begins, m
 
 use isa::Format;
 
-// The place of an A format's pattern among the five. Below, a pattern goes by its place and not by its format: `clash` goes through the
-// five places of a book, and would have to turn each into a format first.
+/// The place of an A format's pattern among the five. Below, a pattern goes by its place and not by its format: `clash` goes through the
+/// five places of a book, and would have to turn each into a format first.
 pub fn pattern_place(format: Format) -> Option<usize>
     ensures is { result ≡ place_of format }
     ensures within { IfSome result (λ i. i < 5) }
@@ -31,7 +31,7 @@ pub fn pattern_length(place: usize) -> u8
     }
 }
 
-// The value of a pattern of so many of the characters 0 and 1.
+/// The value of a pattern of so many of the characters 0 and 1.
 pub fn pattern(text: &[u8], len: u8) -> Option<u8>
     requires { len ≤ 4 }
     ensures { result ≡ pattern_of len text.now }
@@ -66,7 +66,7 @@ fn meet(f: usize, v: u8, g: usize, p: Option<u8>) -> bool
     p.is_some_and(|u| f == g || begin(f, v, g, u) || begin(g, u, f, v))
 }
 
-// Whether the pattern v of place f cannot stand beside the patterns, since its place is taken or one begins the other.
+/// Whether the pattern v of place f cannot stand beside the patterns, since its place is taken or one begins the other.
 pub fn clash(f: usize, v: u8, patterns: &[Option<u8>]) -> bool
     ensures { result ≡ clashes f v 0 patterns.now }
 {

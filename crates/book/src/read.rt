@@ -1,52 +1,59 @@
-ghost use Rattle.std.specs.Prelude.{◌≡◌, Ok};
-ghost use Rattle.book.specs.Faults.{spoken, numbered, left, left_at};
-ghost use Rattle.book.specs.Read.{new_tables, read_rule, line_rule, then_go, told, kept};
+ghost use Rattle.std.specs.Prelude.{◌≡◌};
+ghost use Rattle.book.specs.Read.{after_reading, new_tables, tables_of};
 
 use crate::book::Book;
+use crate::fault::{Fault, Refused};
 use crate::fields::fields_by_tab;
 use crate::patterns::complete;
-use crate::refused::{Fault, Refused};
 use crate::tables::{EMPTY, Tables};
-use text::{Line, Lines};
+use text::{TakeLine, at_line, take_lines};
 
-// Takes up what a line says.
-fn add_line(tables: &mut Tables, line: &[u8]) -> Result<(), Fault>
-    ensures { left result tables.new ≡ line_rule tables.old line.now }
-{
-    let fields = fields_by_tab(line).ok_or(Fault::Fields)?;
-    tables.add(fields)
-}
+impl<'a> TakeLine<'a> for Tables {
+    type Fault = Fault;
 
-// The same, with the line at which a refusal lies.
-fn take_line(tables: &mut Tables, line: Line) -> Result<(), Refused>
-    ensures { left_at result tables.new ≡ then_go line.entry.number (line_rule tables.old line.entry.text.now) Ok }
-{
-    add_line(tables, line.text).map_err(|fault| Refused {
-        fault,
-        line: line.number,
-    })
-}
+    ghost use Rattle.book.specs.declared.fault.Fault.TheVariants.{Fields};
+    ghost use Rattle.book.specs.declared.tables.Tables.{Tables};
+    ghost use Rattle.book.specs.Read.{line_rule};
 
-fn read_text(text: &[u8]) -> Result<Tables, Refused>
-    ensures { spoken result ≡ read_rule text.now }
-{
-    let mut lines = Lines::new(text);
-    let mut tables = EMPTY;
-    'lines: while let Some(line) = lines.next_line()? {
-        take_line(&mut tables, line)?;
+    ghost Said = { Tables };
+
+    ghost said = { λ tables. tables };
+
+    ghost line_rule = { line_rule };
+
+    ghost unended = { Fields };
+
+    fn take_line(&mut self, line: &'a [u8]) -> Result<(), Fault> {
+        let fields = fields_by_tab(line).ok_or(Fault::Fields)?;
+        self.add(fields)
     }
+
+    fn unended() -> Fault {
+        Fault::Fields
+    }
+}
+
+fn finished(tables: Tables) -> Result<Tables, Fault>
+    ensures { result ≡ Rattle.book.specs.Read.finished tables }
+{
     if complete(&tables.patterns) {
         Ok(tables)
     } else {
-        Err(Refused {
-            fault: Fault::Missing,
-            line: lines.line,
-        })
+        Err(Fault::Missing)
     }
 }
 
+#[tactic(auto, unfolding(crate::specs::Read::tables_of))]
+fn read_text(text: &[u8]) -> Result<Tables, Refused>
+    ensures { result ≡ tables_of text.now }
+{
+    let mut tables = EMPTY;
+    let line = take_lines(&mut tables, text)?;
+    at_line(finished(tables), line)
+}
+
 impl Book {
-    // A book that has the usual patterns, and no instruction.
+    /// A book that has the usual patterns, and no instruction.
     pub fn new() -> Book
         ensures { result.tables ≡ new_tables }
     {
@@ -59,10 +66,9 @@ impl Book {
         }
     }
 
-    // Takes the book that the text has; a text that is refused leaves the book as it was.
+    /// Takes the book that the text has; a text that is refused leaves the book as it was.
     pub fn read(&mut self, text: &[u8]) -> Result<(), Refused>
-        ensures answer { numbered result ≡ told (read_rule text.now) }
-        ensures after { self.new.tables ≡ kept self.old.tables (read_rule text.now) }
+        ensures { (result, self.new.tables) ≡ after_reading self.old.tables (tables_of text.now) }
     {
         let tables = read_text(text)?;
         self.readings = None;

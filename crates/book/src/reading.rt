@@ -1,6 +1,7 @@
 ghost use Rattle.std.specs.Prelude.{◌≡◌, ◌/◌, ◌%◌, ◌<◌};
-ghost use Rattle.book.specs.Readings.{fits, pick, m_of, d_of, in_l, in_a, reading};
-ghost use Rattle.book.specs.Laws.{Laid, Sole, Backs};
+ghost use Rattle.book.specs.Readings as spec;
+ghost use Rattle.book.specs.Readings.{l_reading, a_reading, reading};
+ghost use Rattle.book.specs.Laws.{IsLayout, IsSoleLayout, EncodesBack};
 ghost use Rattle.isa.specs.declared.reading.Reading.TheVariants.{Defined};
 
 use crate::book::Book;
@@ -10,8 +11,8 @@ use isa::{Format, Name, Reading};
 use word::{low, middle, signed};
 
 #[inline(always)]
-fn begins(pattern: Option<u8>, bits: u16) -> bool
-    ensures { result ≡ fits pattern bits }
+fn is_pattern(pattern: Option<u8>, bits: u16) -> bool
+    ensures { result ≡ spec.is_pattern pattern bits }
 {
     pattern.is_some_and(|v| u16::from(v) == bits)
 }
@@ -19,17 +20,17 @@ fn begins(pattern: Option<u8>, bits: u16) -> bool
 // The format whose pattern begins the four bits. A test for each, since each pattern has its own number of bits.
 #[inline(always)]
 fn format_at(patterns: &[Option<u8>; 5], bits: u16) -> Option<Format>
-    ensures { result ≡ pick patterns.now bits }
+    ensures { result ≡ spec.format_at patterns.now bits }
 {
-    if begins(patterns[0], bits >> 2) {
+    if is_pattern(patterns[0], bits >> 2) {
         Some(Format::A1)
-    } else if begins(patterns[1], bits >> 3) {
+    } else if is_pattern(patterns[1], bits >> 3) {
         Some(Format::A2)
-    } else if begins(patterns[2], bits) {
+    } else if is_pattern(patterns[2], bits) {
         Some(Format::A3)
-    } else if begins(patterns[3], bits >> 1) {
+    } else if is_pattern(patterns[3], bits >> 1) {
         Some(Format::A4)
-    } else if begins(patterns[4], bits) {
+    } else if is_pattern(patterns[4], bits) {
         Some(Format::A5)
     } else {
         None
@@ -38,7 +39,7 @@ fn format_at(patterns: &[Option<u8>; 5], bits: u16) -> Option<Format>
 
 #[inline(always)]
 fn m_field(format: Format, word: u16) -> u8
-    ensures { result ≡ m_of format word }
+    ensures { result ≡ spec.m_field format word }
 {
     match format {
         Format::A2 => middle(word, 7, 2) as u8,
@@ -50,7 +51,7 @@ fn m_field(format: Format, word: u16) -> u8
 
 #[inline(always)]
 fn d_field(format: Format, word: u16) -> u8
-    ensures { result ≡ d_of format word }
+    ensures { result ≡ spec.d_field format word }
 {
     match format {
         Format::A1 => low(word, 8) as u8,
@@ -64,7 +65,7 @@ fn d_field(format: Format, word: u16) -> u8
 
 #[inline(always)]
 fn read_a(tables: &Tables, word: u16) -> Reading
-    ensures { result ≡ in_a (pick tables.now.patterns (word / 64 % 16)) tables.now word }
+    ensures { result ≡ a_reading tables.now word }
 {
     let Some(format) = format_at(&tables.patterns, middle(word, 6, 4)) else {
         return Reading::NoPattern;
@@ -96,7 +97,7 @@ fn plain(name: Name, format: Format, d: i16) -> Reading
 #[inline(always)]
 fn read_l(tables: &Tables, word: u16) -> Reading
     requires { word < 16384 }
-    ensures { result ≡ in_l tables.now word }
+    ensures { result ≡ l_reading tables.now word }
 {
     if let Some(name) = whole_word(word) {
         return plain(name, Format::L, 0);
@@ -142,13 +143,13 @@ impl Book {
         }
     }
 
-    // What a word means under this book: its one layout, if it has any.
+    /// What a word means under this book: its one layout, if it has any.
     #[inline(always)]
     pub fn reading(&self, word: u16) -> Reading
         ensures is { result ≡ reading self.now.tables word }
-        ensures laid { Laid self.now.tables word result }
-        ensures sole { Sole self.now.tables word result }
-        ensures again { Backs self.now.tables word result }
+        ensures layout { IsLayout self.now.tables word result }
+        ensures sole { IsSoleLayout self.now.tables word result }
+        ensures encodes_back { EncodesBack self.now.tables word result }
     {
         self.look_up(word)
     }

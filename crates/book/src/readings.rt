@@ -7,7 +7,7 @@ use crate::tables::Tables;
 use isa::Reading;
 use std::alloc::{AllocError, Global};
 
-// The reading of each word, so that a step looks it up.
+/// The reading of each word, so that a step looks it up.
 #[derive(Drop)]
 pub struct Readings {
     held: Vec<Reading>,
@@ -28,7 +28,7 @@ fn fill(readings: &mut [Reading], tables: &Tables)
 
 impl Readings {
     pub(crate) fn of(tables: &Tables, alloc: Global) -> Result<Readings, AllocError>
-        ensures { IfOk result (λ readings. readings.held.items ≡ readings_from tables.now 0 65536) }
+        ensures { IfOk result (λ made. made.held.items ≡ readings_from tables.now 0 65536) }
     {
         let mut held = vec![in alloc; Reading::Undefined; 65536]?;
         fill(&mut held, tables);

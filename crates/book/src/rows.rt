@@ -1,8 +1,7 @@
-ghost use Rattle.std.specs.Prelude.{◌≡◌, ◌<◌, length, position, if◌then◌else◌, IfSome, Some, Ok, Err, slice_set};
-ghost use Rattle.book.specs.Rows.{is_name, has_name, taken};
-ghost use Rattle.book.specs.declared.refused.Fault.TheVariants.{Repeated};
+ghost use Rattle.std.specs.Prelude.{◌≡◌, ◌<◌, length, position, IfSome};
+ghost use Rattle.book.specs.Rows.{is_name, has_name, entered};
 
-use crate::refused::Fault;
+use crate::fault::Fault;
 use isa::Name;
 
 fn is_entry(entry: &Option<Name>, name: Name) -> bool
@@ -17,7 +16,7 @@ fn has(table: &[Option<Name>], name: Name) -> bool
     table.iter().any(|entry| is_entry(entry, name))
 }
 
-// The place of the name in the table.
+/// The place of the name in the table.
 pub fn place_of(table: &[Option<Name>], name: Name) -> Option<usize>
     ensures is { result ≡ position (is_name name) table.now }
     ensures within { IfSome result (λ k. k < length table.now) }
@@ -25,11 +24,10 @@ pub fn place_of(table: &[Option<Name>], name: Name) -> Option<usize>
     table.iter().position(|entry| is_entry(entry, name))
 }
 
-// Enters the name at its number, if both are free. A number that was read becomes a place by `as`: the library has no `From` for the two.
+/// Enters the name at its number, if both are free. A number that was read becomes a place by `as`: the library has no `From` for the two.
 pub fn enter(table: &mut [Option<Name>], name: Name, number: u32) -> Result<(), Fault>
     requires { number < length table.old }
-    ensures answer { result ≡ (if taken table.old name number then Err Repeated else Ok tt) }
-    ensures after { table.new ≡ (if taken table.old name number then table.old else slice_set table.old number (Some name)) }
+    ensures { (result, table.new) ≡ entered table.old name number }
 {
     if table[number as usize].is_some() || has(table, name) {
         return Err(Fault::Repeated);

@@ -1,6 +1,6 @@
 use isa::Name;
 
-// The names of each letter by their numbers, and the value of the pattern of each of A1 to A5.
+/// The names of each letter by their numbers, and the value of the pattern of each of A1 to A5.
 #[derive(Clone, Copy, Debug, PartialEq, Eq)]
 pub struct Tables {
     pub a: [Option<Name>; 64],

@@ -3,8 +3,8 @@ ghost use Rattle.book.specs.Wholes.{whole_of, word_of, branches};
 
 use isa::Name;
 
-// The instruction that a whole word is in every book. The same list stands in `word_of_name` by names: a match each way is read at a
-// glance, and a table would have to be searched in one of them.
+/// The instruction that a whole word is in every book. The same list stands in `word_of_name` by names: a match each way is read at a
+/// glance, and a table would have to be searched in one of them.
 #[inline(always)]
 pub fn whole_word(word: u16) -> Option<Name>
     ensures { result ≡ whole_of word }
@@ -42,7 +42,7 @@ pub fn word_of_name(name: Name) -> Option<u16>
     }
 }
 
-// The L instructions whose D is signed: BZ, BNZ, BN, BNN, BCA and BOF.
+/// The L instructions whose D is signed: BZ, BNZ, BN, BNN, BCA and BOF.
 #[inline(always)]
 pub fn is_branch(name: Name) -> bool
     ensures { result ≡ branches name }

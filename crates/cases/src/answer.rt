@@ -43,8 +43,8 @@ fn answer_reading(rt: &HostRuntime, book: &Book, word: u16) -> io::Result<()> {
     println!(rt; "reading {reading}")
 }
 
-fn answer_unput(rt: &HostRuntime, unput: EncodeError) -> io::Result<()> {
-    let number = unput.number();
+fn answer_encode_error(rt: &HostRuntime, error: EncodeError) -> io::Result<()> {
+    let number = error.number();
     println!(rt; "put refused {number}")
 }
 
@@ -56,9 +56,9 @@ fn answer_put(
     m: i32,
     d: i32,
 ) -> io::Result<()> {
-    match book.put_together(name, format, m, d) {
+    match book.encode(name, format, m, d) {
         Ok(word) => println!(rt; "put {word:04X}"),
-        Err(unput) => answer_unput(rt, unput),
+        Err(error) => answer_encode_error(rt, error),
     }
 }
 
@@ -69,7 +69,7 @@ impl<'a> Case<'a> {
             Case::Book(text) => answer_book(rt, &text),
             Case::Reading(word) => answer_reading(rt, book, word),
             Case::Put(name, format, m, d) => answer_put(rt, book, name, format, m, d),
-            Case::Unknown => answer_unput(rt, EncodeError::Unavailable),
+            Case::Unknown => answer_encode_error(rt, EncodeError::Unavailable),
         }
     }
 }

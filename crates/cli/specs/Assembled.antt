@@ -2,7 +2,7 @@
 use Rattle.std.specs.Prelude.{ℕ, List, replicate}
 use Rattle.book.specs.declared.tables.Tables.{Tables}
 use Rattle.listing.specs.Listing.{listing}
-use Rattle.listing.specs.Assembled.{kept}
+use Rattle.listing.specs.Assembled.{bytes_after}
 
 -- so many bytes, each zero
 unfoldable pub zeros : ℕ → List ℕ
@@ -10,4 +10,4 @@ zeros n = replicate n 0
 
 -- the bytes of a store with what the listing places, and zero elsewhere
 abbrev pub assembled_bytes : Tables → List ℕ → List ℕ
-assembled_bytes t text = kept (zeros 65536) (listing t text)
+assembled_bytes t text = bytes_after (zeros 65536) (listing t text)

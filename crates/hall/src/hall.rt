@@ -9,7 +9,7 @@ use book::Book;
 use std::marker::Model;
 use store::Store;
 
-// A store and a book, and eight bays.
+/// A store and a book, and eight bays.
 #[derive(Drop)]
 pub struct Hall<S: Store> {
     pub(crate) store: S,
@@ -21,14 +21,14 @@ pub struct Hall<S: Store> {
 impl<S: Store> Model for Hall<S> {
     ghost Value = { Rattle.history.specs.Hall.Hall };
 
-    ghost view = { λ h. record { book = h.book; bays = h.table.bays; bytes = S.Store.bytes h.store; footing = S.Store.footing h.store } };
+    ghost view = { λ h. record { book = h.book.tables; bays = h.table.bays; bytes = S.Store.bytes h.store; footing = S.Store.footing h.store } };
 }
 
 impl<S: Store> Hall<S> {
-    // A hall with eight free bays. What is promised here of every history holds of the calls below,
-    // whose contracts cite the same definitions.
+    /// A hall with eight free bays. What is promised here of every history holds of the calls below, whose contracts cite the same
+    /// definitions.
     pub fn new(store: S, book: Book) -> Hall<S>
-        ensures made { result ≡ over (S.Store.footing store) (new book (S.Store.bytes store)) }
+        ensures made { result ≡ over (S.Store.footing store) (new book.tables (S.Store.bytes store)) }
         ensures isolation { Isolation }
         ensures order { Order }
         ensures exchange { Exchange }
@@ -42,7 +42,7 @@ impl<S: Store> Hall<S> {
         }
     }
 
-    // The store, as the calls left it.
+    /// The store, as the calls left it.
     pub fn into_store(self) -> S
         ensures bytes { S.Store.bytes result ≡ self.bytes }
         ensures footing { S.Store.footing result ≡ self.footing }
@@ -51,7 +51,7 @@ impl<S: Store> Hall<S> {
         store
     }
 
-    // The bay that a handle names, if it is at the handle's stage.
+    // The bay that a handle names, as it is now, if it is at the handle's stage.
     pub(crate) fn entered<K: AtStage>(&self, handle: &Handle<K>) -> Result<Bay, Refusal>
         ensures { result ≡ Rattle.bays.specs.Bays.entered K.STAGE self.now.bays handle.now.bay }
     {

@@ -3,14 +3,17 @@ use Rattle.std.proofs.Common.{◌≡◌, ℕ, zero, suc, ◌+◌, ◌%◌, ◌<�
 use Rattle.std.proofs.lemmas.List.{get_or-set_other}
 use Rattle.access.specs.declared.rights.Grant.{Grant}
 use Rattle.bays.specs.declared.bay.Bay.{Bay}
+use Rattle.bays.proofs.Bytes.{get_wiped}
 use Rattle.bays.specs.Bays.{bay_at, clash, free, wiped}
-use Rattle.bays.specs.Grants.{added, both_read, clashes, clashes_any, has, reads, room, vacant, writes}
-use Rattle.access.specs.Access.{allows, allows_all, covers, granted, permits, within}
+use Rattle.bays.specs.Grants.{added, any_grant, clashes, clashes_any, excludes, has, holds, passes, room, vacant}
+use Rattle.access.specs.Access.{allows, allows_all, covers, granted, within}
+use Rattle.access.specs.Kinds.{permits}
 use Rattle.access.specs.declared.rights.Rights.{Rights}
-use Rattle.access.specs.declared.rights.Kind.{Kind}
-use Rattle.access.specs.declared.rights.Kind.TheVariants as kind
-use Rattle.access.specs.declared.stop.Access.{Access}
-use Rattle.access.specs.declared.stop.Access.TheVariants.{Read, Write}
+use Rattle.access.specs.declared.kind.Kind.{Kind}
+use Rattle.access.specs.declared.kind.Kind.TheVariants as kind
+use Rattle.access.specs.declared.kind.Use.{Use}
+use Rattle.access.specs.declared.kind.Use.TheVariants.{Fetch, Read, Write, Load, Copy, Clear}
+use Rattle.std.specs.List.{list_any}
 use Rattle.store.specs.Bulk.{taken, written}
 
 -- by cases of a test that is kept in view
@@ -67,58 +70,77 @@ pub false_of : (b : Bool) → (T b → ⊥) → b ≡ false
 false_of true n = absurd (n tt)
 false_of false n = refl
 
--- grants
-permits_read : (k : Kind) → T (permits k Read)
-permits_read kind.Read = tt
-permits_read kind.Write = tt
+-- what a program may write, and what may be loaded, a close makes zero
+pub write_clears : (k : Kind) → T (permits k Write) → T (permits k Clear)
+write_clears kind.Read t = t
+write_clears kind.Write t = tt
 
-pub covers_has : (g : Grant) (w : Access) (a : ℕ) → T (covers (Some g) w a) → T (has g a)
-covers_has g w a t = and_left (has g a) (permits g.kind w) t
+pub load_clears : (k : Kind) → T (permits k Load) → T (permits k Clear)
+load_clears kind.Read t = t
+load_clears kind.Write t = tt
 
-pub has_covers : (g : Grant) (a : ℕ) → T (permits g.kind Write && has g a) → T (covers (Some g) Write a)
-has_covers g a t = and_both (has g a) (permits g.kind Write) (and_right (permits g.kind Write) (has g a) t) (and_left (permits g.kind Write) (has g a) t)
-
-pub covers_write : (g : Grant) (a : ℕ) → T (covers (Some g) Write a) → T (permits g.kind Write && has g a)
-covers_write g a t = and_both (permits g.kind Write) (has g a) (and_right (has g a) (permits g.kind Write) t) (and_left (has g a) (permits g.kind Write) t)
-
-covers_reads : (g : Option Grant) (a : ℕ) → T (covers g Write a) → T (covers g Read a)
-covers_reads None a t = t
-covers_reads (Some g) a t = and_both (has g a) (permits g.kind Read) (covers_has g Write a t) (permits_read g.kind)
-
-pub writes_reads : (gs : List (Option Grant)) (a : ℕ) → T (writes gs a) → T (reads gs a)
-writes_reads [] a t = t
-writes_reads (g ∷ gs) a t =
-    elim (or_cases (covers g Write a) (writes gs a) t) [
-      | inl u ↦ or_left (covers g Read a) (reads gs a) (covers_reads g a u)
-      | inr u ↦ or_right (covers g Read a) (reads gs a) (writes_reads gs a u)
+-- from a test of grants to one that is passed more easily
+pub any_more : (f g : Option Grant → Bool) → ((o : Option Grant) → T (f o) → T (g o)) → (gs : List (Option Grant)) → T (list_any f gs) → T (list_any g gs)
+any_more f g h [] t = t
+any_more f g h (o ∷ gs) t =
+    elim (or_cases (f o) (list_any f gs) t) [
+      | inl u ↦ or_left (g o) (list_any g gs) (h o u)
+      | inr u ↦ or_right (g o) (list_any g gs) (any_more f g h gs u)
     ]
 
--- one grant more
-pub added_cases : (g : Grant) (w : Access) (a : ℕ) (gs : List (Option Grant)) → T (granted (added g gs) w a) → T (covers (Some g) w a) ⊎ T (granted gs w a)
-added_cases g w a [] t = absurd t
-added_cases g w a (None ∷ gs) t = or_cases (covers (Some g) w a) (granted gs w a) t
-added_cases g w a (Some h ∷ gs) t =
-    elim (or_cases (covers (Some h) w a) (granted (added g gs) w a) t) [
-      | inl u ↦ inr (or_left (covers (Some h) w a) (granted gs w a) u)
-      | inr u ↦ elim (added_cases g w a gs u) [ inl v ↦ inl v | inr v ↦ inr (or_right (covers (Some h) w a) (granted gs w a) v) ]
-    ]
+covers_has : (u : Use) (a : ℕ) (o : Option Grant) → T (covers o u a) → T (passes (λ g. has g a) o)
+covers_has u a None t = t
+covers_has u a (Some g) t = and_left (has g a) (permits g.kind u) t
 
-pub added_old : (g : Grant) (w : Access) (a : ℕ) (gs : List (Option Grant)) → T (granted gs w a) → T (granted (added g gs) w a)
-added_old g w a [] t = t
-added_old g w a (None ∷ gs) t = or_right (covers (Some g) w a) (granted gs w a) t
-added_old g w a (Some h ∷ gs) t =
-    elim (or_cases (covers (Some h) w a) (granted gs w a) t) [
-      | inl u ↦ or_left (covers (Some h) w a) (granted (added g gs) w a) u
-      | inr u ↦ or_right (covers (Some h) w a) (granted (added g gs) w a) (added_old g w a gs u)
-    ]
+-- whatever is allowed lies in a grant
+pub granted_holds : (u : Use) (gs : List (Option Grant)) (a : ℕ) → T (granted gs u a) → T (holds gs a)
+granted_holds u gs a t = any_more _ _ (covers_has u a) gs t
 
-added_in : (g : Grant) (w : Access) (a : ℕ) (gs : List (Option Grant)) → vacant gs < length gs → T (covers (Some g) w a) → T (granted (added g gs) w a)
-added_in g w a [] n t = absurd (omega arith)
-added_in g w a (None ∷ gs) n t = or_left (covers (Some g) w a) (granted gs w a) t
-added_in g w a (Some h ∷ gs) n t = or_right (covers (Some h) w a) (granted (added g gs) w a) (added_in g w a gs (omega arith) t)
+pub excludes_holds : (gs : List (Option Grant)) (a : ℕ) → T (excludes gs a) → T (holds gs a)
+excludes_holds gs a t = granted_holds Clear gs a t
 
-pub added_new : (g : Grant) (w : Access) (a : ℕ) (gs : List (Option Grant)) → T (room gs) → T (covers (Some g) w a) → T (granted (added g gs) w a)
-added_new g w a gs n t = added_in g w a gs (ltb→lt (vacant gs) (length gs) n) t
+covers_clears : (u : Use) → ((k : Kind) → T (permits k u) → T (permits k Clear)) → (a : ℕ) (o : Option Grant) → T (covers o u a) → T (covers o Clear a)
+covers_clears u f a None t = t
+covers_clears u f a (Some g) t = and_both (has g a) (permits g.kind Clear) (and_left (has g a) (permits g.kind u) t) (f g.kind (and_right (has g a) (permits g.kind u) t))
+
+-- what may be written, or loaded, is under an exclusive grant
+pub granted_excludes : (u : Use) → ((k : Kind) → T (permits k u) → T (permits k Clear)) → (gs : List (Option Grant)) (a : ℕ) → T (granted gs u a) → T (excludes gs a)
+granted_excludes u f gs a t = any_more _ _ (covers_clears u f a) gs t
+
+pub has_covers : (g : Grant) (a : ℕ) → T (permits g.kind Clear && has g a) → T (covers (Some g) Clear a)
+has_covers g a t = and_both (has g a) (permits g.kind Clear) (and_right (permits g.kind Clear) (has g a) t) (and_left (permits g.kind Clear) (has g a) t)
+
+pub covers_exclusively : (g : Grant) (a : ℕ) → T (covers (Some g) Clear a) → T (permits g.kind Clear && has g a)
+covers_exclusively g a t = and_both (permits g.kind Clear) (has g a) (and_right (has g a) (permits g.kind Clear) t) (and_left (has g a) (permits g.kind Clear) t)
+
+-- one grant more, by a test that no vacant place passes
+module _ (f : Option Grant → Bool) (vacancy : T (f None) → ⊥) (g : Grant) where
+  pub added_cases : (gs : List (Option Grant)) → T (list_any f (added g gs)) → T (f (Some g)) ⊎ T (list_any f gs)
+  added_cases [] t = absurd t
+  added_cases (None ∷ gs) t =
+      elim (or_cases (f (Some g)) (list_any f gs) t) [ inl u ↦ inl u | inr u ↦ inr (or_right (f None) (list_any f gs) u) ]
+  added_cases (Some h ∷ gs) t =
+      elim (or_cases (f (Some h)) (list_any f (added g gs)) t) [
+        | inl u ↦ inr (or_left (f (Some h)) (list_any f gs) u)
+        | inr u ↦ elim (added_cases gs u) [ inl v ↦ inl v | inr v ↦ inr (or_right (f (Some h)) (list_any f gs) v) ]
+      ]
+
+  pub added_old : (gs : List (Option Grant)) → T (list_any f gs) → T (list_any f (added g gs))
+  added_old [] t = t
+  added_old (None ∷ gs) t = elim (or_cases (f None) (list_any f gs) t) [ inl u ↦ absurd (vacancy u) | inr u ↦ or_right (f (Some g)) (list_any f gs) u ]
+  added_old (Some h ∷ gs) t =
+      elim (or_cases (f (Some h)) (list_any f gs) t) [
+        | inl u ↦ or_left (f (Some h)) (list_any f (added g gs)) u
+        | inr u ↦ or_right (f (Some h)) (list_any f (added g gs)) (added_old gs u)
+      ]
+
+  added_in : (gs : List (Option Grant)) → vacant gs < length gs → T (f (Some g)) → T (list_any f (added g gs))
+  added_in [] n t = absurd (omega arith)
+  added_in (None ∷ gs) n t = or_left (f (Some g)) (list_any f gs) t
+  added_in (Some h ∷ gs) n t = or_right (f (Some h)) (list_any f (added g gs)) (added_in gs (omega arith) t)
+
+  pub added_new : (gs : List (Option Grant)) → T (room gs) → T (f (Some g)) → T (list_any f (added g gs))
+  added_new gs n t = added_in gs (ltb→lt (vacant gs) (length gs) n) t
 
 -- bytes written from an address on
 pub length_written : (vs bs : List ℕ) (x : ℕ) → length (written bs x vs) ≡ length bs
@@ -135,64 +157,47 @@ next_in : (x n : ℕ) → x + suc (suc n) ≤ 65536 → (x + 1) % 65536 ≡ x + 
 next_in x n h = mod-eq_of_lt (omega arith)
 
 module _ (rights : Rights) where
-  pub written_frame : (vs bs : List ℕ) (x a : ℕ) → x + length vs ≤ 65536 → T (allows_all rights Write x (length vs)) → (T (allows rights Write a) → ⊥) → get_or (written bs x vs) a 0 ≡ get_or bs a 0
+  pub written_frame : (vs bs : List ℕ) (x a : ℕ) → x + length vs ≤ 65536 → T (allows_all rights Load x (length vs)) → (T (allows rights Load a) → ⊥) → get_or (written bs x vs) a 0 ≡ get_or bs a 0
   written_frame [] bs x a h t n = refl
   written_frame (v ∷ []) bs x a h t n =
-      get_or-set_other bs x a v 0 (λ e. n (subst (λ (y : ℕ). T (allows rights Write y)) (sym e) (and_left (allows rights Write x) true t)))
+      get_or-set_other bs x a v 0 (λ e. n (subst (λ (y : ℕ). T (allows rights Load y)) (sym e) (and_left (allows rights Load x) true t)))
   written_frame (v ∷ v' ∷ vs) bs x a h t n =
       ap (λ (y : ℕ). get_or (written (set bs x v) y (v' ∷ vs)) a 0) (next_in x (length vs) h)
-      ∙ written_frame (v' ∷ vs) (set bs x v) (x + 1) a (omega arith) (and_right (allows rights Write x) (allows_all rights Write (x + 1) (length (v' ∷ vs))) t) n
-      ∙ get_or-set_other bs x a v 0 (λ e. n (subst (λ (y : ℕ). T (allows rights Write y)) (sym e) (and_left (allows rights Write x) (allows_all rights Write (x + 1) (length (v' ∷ vs))) t)))
+      ∙ written_frame (v' ∷ vs) (set bs x v) (x + 1) a (omega arith) (and_right (allows rights Load x) (allows_all rights Load (x + 1) (length (v' ∷ vs))) t) n
+      ∙ get_or-set_other bs x a v 0 (λ e. n (subst (λ (y : ℕ). T (allows rights Load y)) (sym e) (and_left (allows rights Load x) (allows_all rights Load (x + 1) (length (v' ∷ vs))) t)))
 
   -- bytes taken from an address on, where each is the same
-  pub taken_same : (n x : ℕ) (bs cs : List ℕ) → x + n ≤ 65536 → T (allows_all rights Read x n) → ((a : ℕ) → T (allows rights Read a) → get_or bs a 0 ≡ get_or cs a 0) → taken bs x n ≡ taken cs x n
+  pub taken_same : (n x : ℕ) (bs cs : List ℕ) → x + n ≤ 65536 → T (allows_all rights Copy x n) → ((a : ℕ) → T (allows rights Copy a) → get_or bs a 0 ≡ get_or cs a 0) → taken bs x n ≡ taken cs x n
   taken_same zero x bs cs h t f = refl
-  taken_same (suc zero) x bs cs h t f = ap (λ (v : ℕ). v ∷ []) (f x (and_left (allows rights Read x) true t))
+  taken_same (suc zero) x bs cs h t f = ap (λ (v : ℕ). v ∷ []) (f x (and_left (allows rights Copy x) true t))
   taken_same (suc (suc n)) x bs cs h t f =
       let e = next_in x n h in
-      let r : taken bs (x + 1) (suc n) ≡ taken cs (x + 1) (suc n) = taken_same (suc n) (x + 1) bs cs (omega arith) (and_right (allows rights Read x) (allows_all rights Read (x + 1) (suc n)) t) f in
-      let v : get_or bs x 0 ≡ get_or cs x 0 = f x (and_left (allows rights Read x) (allows_all rights Read (x + 1) (suc n)) t) in
+      let r : taken bs (x + 1) (suc n) ≡ taken cs (x + 1) (suc n) = taken_same (suc n) (x + 1) bs cs (omega arith) (and_right (allows rights Copy x) (allows_all rights Copy (x + 1) (suc n)) t) f in
+      let v : get_or bs x 0 ≡ get_or cs x 0 = f x (and_left (allows rights Copy x) (allows_all rights Copy (x + 1) (suc n)) t) in
       ap (λ (y : ℕ). get_or bs x 0 ∷ taken bs y (suc n)) e ∙ (λ i. v i ∷ r i) ∙ ap (λ (y : ℕ). get_or cs x 0 ∷ taken cs y (suc n)) (sym e)
 
-  pub within_in : (w : Access) (x n : ℕ) → T (within rights w x n) → x + n ≤ 65536
-  within_in w x n t = leb→le (x + n) 65536 (and_left (leb (x + n) 65536) (allows_all rights w x n) t)
+  pub within_in : (u : Use) (x n : ℕ) → T (within rights u x n) → x + n ≤ 65536
+  within_in u x n t = leb→le (x + n) 65536 (and_left (leb (x + n) 65536) (allows_all rights u x n) t)
 
-  pub within_all : (w : Access) (x n : ℕ) → T (within rights w x n) → T (allows_all rights w x n)
-  within_all w x n t = and_right (leb (x + n) 65536) (allows_all rights w x n) t
+  pub within_all : (u : Use) (x n : ℕ) → T (within rights u x n) → T (allows_all rights u x n)
+  within_all u x n t = and_right (leb (x + n) 65536) (allows_all rights u x n) t
 
 -- what closing leaves
-pub length_wiped : (gs : List (Option Grant)) (i : ℕ) (bs : List ℕ) → length (wiped gs i bs) ≡ length bs
-length_wiped gs i [] = refl
-length_wiped gs i (b ∷ bs) = ap suc (length_wiped gs (suc i) bs)
-
-cond_same : {A : Type 0} (b : Bool) (x : A) → x ≡ cond b x x
-cond_same true x = refl
-cond_same false x = refl
-
-get_wiped_from : (gs : List (Option Grant)) (i : ℕ) (bs : List ℕ) (a : ℕ) → get_or (wiped gs i bs) a 0 ≡ cond (writes gs (i + a)) 0 (get_or bs a 0)
-get_wiped_from gs i [] a = cond_same (writes gs (i + a)) 0
-get_wiped_from gs i (b ∷ bs) zero = ap (λ (n : ℕ). cond (writes gs n) 0 b) (sym (add-zero i))
-get_wiped_from gs i (b ∷ bs) (suc a) =
-    get_wiped_from gs (suc i) bs a ∙ ap (λ (n : ℕ). cond (writes gs n) 0 (get_or bs a 0)) (suc-add i a ∙ sym (add-suc i a))
-
-pub get_wiped : (gs : List (Option Grant)) (bs : List ℕ) (a : ℕ) → get_or (wiped gs 0 bs) a 0 ≡ cond (writes gs a) 0 (get_or bs a 0)
-get_wiped gs bs a = get_wiped_from gs 0 bs a ∙ ap (λ (n : ℕ). cond (writes gs n) 0 (get_or bs a 0)) (zero-add a)
-
-pub wiped_zero : (gs : List (Option Grant)) (bs : List ℕ) (a : ℕ) → T (writes gs a) → get_or (wiped gs 0 bs) a 0 ≡ 0
-wiped_zero gs bs a t = get_wiped gs bs a ∙ on (writes gs a) t
+pub wiped_zero : (gs : List (Option Grant)) (bs : List ℕ) (a : ℕ) → T (excludes gs a) → get_or (wiped gs 0 bs) a 0 ≡ 0
+wiped_zero gs bs a t = get_wiped gs bs a ∙ on (excludes gs a) t
   where
     on : (b : Bool) → T b → cond b 0 (get_or bs a 0) ≡ 0
     on true t = refl
     on false t = absurd t
 
-pub wiped_frame : (gs : List (Option Grant)) (bs : List ℕ) (a : ℕ) → (T (writes gs a) → ⊥) → get_or (wiped gs 0 bs) a 0 ≡ get_or bs a 0
-wiped_frame gs bs a n = get_wiped gs bs a ∙ on (writes gs a) n
+pub wiped_frame : (gs : List (Option Grant)) (bs : List ℕ) (a : ℕ) → (T (excludes gs a) → ⊥) → get_or (wiped gs 0 bs) a 0 ≡ get_or bs a 0
+wiped_frame gs bs a n = get_wiped gs bs a ∙ on (excludes gs a) n
   where
     on : (b : Bool) → (T b → ⊥) → cond b 0 (get_or bs a 0) ≡ get_or bs a 0
     on true n = absurd (n tt)
     on false n = refl
 
--- the clash test: an accepted range shares no byte with another grant, unless both are to read
+-- the clash test: an accepted range shares no byte with another grant, if one of the two is exclusive
 overlap : (f l f' l' a : ℕ) → T (leb f a && leb a l) → T (leb f' a && leb a l') → T (leb f l' && leb f' l)
 overlap f l f' l' a s t =
     let p : f ≤ a = leb→le f a (and_left (leb f a) (leb a l) s) in
@@ -201,39 +206,23 @@ overlap f l f' l' a s t =
     let u : a ≤ l' = leb→le a l' (and_right (leb f' a) (leb a l') t) in
     and_both (leb f l') (leb f' l) (le→leb f l' (omega arith)) (le→leb f' l (omega arith))
 
--- two kinds of which one is to write are not both read
-write_left : (k h : Kind) → T (permits k Write) → T (not (both_read k h))
-write_left kind.Read h t = absurd t
-write_left kind.Write kind.Read t = tt
-write_left kind.Write kind.Write t = tt
-
-write_right : (k h : Kind) → T (permits h Write) → T (not (both_read k h))
-write_right k kind.Read t = absurd t
-write_right kind.Read kind.Write t = tt
-write_right kind.Write kind.Write t = tt
-
--- a grant to write in the way of g, or g to write and any in its way
+-- an exclusive grant in the way of g, or g exclusive and any in its way
 abbrev pub InWay : Grant → List (Option Grant) → ℕ → Type 0
-InWay g gs a = T (writes gs a) ⊎ (T (permits g.kind Write) × T (reads gs a))
+InWay g gs a = T (excludes gs a) ⊎ (T (permits g.kind Clear) × T (holds gs a))
 
 clashes_any_in : (g : Grant) (gs : List (Option Grant)) (a : ℕ) → T (has g a) → InWay g gs a → T (clashes_any g gs)
-clashes_any_in g [] a c (inl t) = t
-clashes_any_in g [] a c (inr t) = t.1
-clashes_any_in g (None ∷ hs) a c t = clashes_any_in g hs a c t
-clashes_any_in g (Some h ∷ hs) a c (inl t) =
-    elim (or_cases (covers (Some h) Write a) (writes hs a) t) [
-      | inl u ↦ or_left (clashes g (Some h)) (clashes_any g hs)
-          (and_both (not (both_read g.kind h.kind)) _ (write_right g.kind h.kind (and_right (has h a) (permits h.kind Write) u))
-          (overlap g.first g.last h.first h.last a c (covers_has h Write a u)))
-      | inr u ↦ or_right (clashes g (Some h)) (clashes_any g hs) (clashes_any_in g hs a c (inl u))
-    ]
-clashes_any_in g (Some h ∷ hs) a c (inr t) =
-    elim (or_cases (covers (Some h) Read a) (reads hs a) t.1) [
-      | inl u ↦ or_left (clashes g (Some h)) (clashes_any g hs)
-          (and_both (not (both_read g.kind h.kind)) _ (write_left g.kind h.kind t.0)
-          (overlap g.first g.last h.first h.last a c (covers_has h Read a u)))
-      | inr u ↦ or_right (clashes g (Some h)) (clashes_any g hs) (clashes_any_in g hs a c (inr (t.0, u)))
-    ]
+clashes_any_in g gs a c (inl t) = any_more (λ o. covers o Clear a) (clashes g) in_way gs t
+  where
+    in_way : (o : Option Grant) → T (covers o Clear a) → T (clashes g o)
+    in_way None u = u
+    in_way (Some h) u =
+        and_both (permits g.kind Clear || permits h.kind Clear) _ (or_right (permits g.kind Clear) _ (and_right (has h a) (permits h.kind Clear) u))
+        (overlap g.first g.last h.first h.last a c (and_left (has h a) (permits h.kind Clear) u))
+clashes_any_in g gs a c (inr t) = any_more (passes (λ h. has h a)) (clashes g) in_way gs t.1
+  where
+    in_way : (o : Option Grant) → T (passes (λ h. has h a) o) → T (clashes g o)
+    in_way None u = u
+    in_way (Some h) u = and_both (permits g.kind Clear || permits h.kind Clear) _ (or_left (permits g.kind Clear) _ t.0) (overlap g.first g.last h.first h.last a c u)
 
 clash_get : (g : Grant) (l : List Bay) (k a : ℕ) → T (has g a) → InWay g (get_or l k free).rights.grants a → T (clash g l)
 clash_get g [] k a c (inl t) = t

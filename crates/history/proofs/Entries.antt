@@ -1,5 +1,5 @@
 -- What the hall knows of its bays apart from their programs, and lists of bays with one bay put.
-use Rattle.std.proofs.Common.{◌≡◌, ℕ, zero, suc, Bool, cond, ◌&&◌, ◌||◌, leb, ◌≢◌, ◌⊎◌, List, [], ◌∷◌, length, get_or, set, Some, None, Option, sym, refl, ap, ◌∙◌, subst, inl, inr, arith}
+use Rattle.std.proofs.Common.{◌≡◌, ℕ, zero, suc, Bool, cond, ◌&&◌, ◌||◌, is_some, ◌≢◌, ◌⊎◌, List, [], ◌∷◌, length, get_or, set, Some, None, Option, sym, refl, ap, ◌∙◌, subst, inl, inr, arith}
 use mathlib.Core.List.{map}
 use lib.ListN.{get_or-map}
 use lib.Seq.{map-set}
@@ -10,14 +10,14 @@ use Rattle.access.specs.declared.rights.Grant.{Grant}
 use Rattle.bays.specs.declared.bay.Bay.{Bay}
 use Rattle.bays.specs.declared.stage.Stage.{Stage}
 use Rattle.bays.specs.declared.stage.Stage.TheVariants.{Preparing}
-use Rattle.bays.specs.declared.refusal.Refusal.TheVariants.{NoSuchBay, OtherStage, Taken, Reversed, Full, Clash}
+use Rattle.bays.specs.declared.refusal.Refusal.TheVariants.{NoSuchBay, OtherStage, Taken}
 use Rattle.bays.proofs.Lists.{put_same}
 use Rattle.history.proofs.Basics.{get_set}
-use Rattle.bays.specs.Bays.{bay_at, clash, free, put_bay}
-use Rattle.bays.specs.Grants.{clashes_any, room}
+use Rattle.bays.specs.Bays.{bay_at, clash, free, place_of, put_bay, with_program}
+use Rattle.bays.specs.Grants.{checked, clashes_any}
 use Rattle.bays.specs.Stages.{at_stage, is_free}
 use Rattle.history.specs.Calls.{Shared, close, grant, open_bay, seal}
-use Rattle.history.specs.Hall.{Program, changed, program_of, verdict, with_program}
+use Rattle.history.specs.Hall.{Program, changed, program_of, refusal_of, verdict}
 
 pub record Entry : Type 0 where
   pub stage : Option Stage
@@ -68,18 +68,16 @@ module _ (l m : List Bay) (e : entries l ≡ entries m) where
   same_put k b c f = put_entry_of l k b ∙ (λ i. put_entry (e i) k (f i)) ∙ sym (put_entry_of m k c)
 
   pub same_verdict : (k : ℕ) (s : Stage) (o : Shared) → verdict k s o l ≡ verdict k s o m
-  same_verdict k s open_bay = λ i. cond (leb 1 k && leb k 8) (cond (is_free (same_entry k i).stage) None (Some Taken)) (Some NoSuchBay)
+  same_verdict k s open_bay = λ i. cond (is_some (place_of k)) (cond (is_free (same_entry k i).stage) None (Some Taken)) (Some NoSuchBay)
   same_verdict k s (grant g) = λ i.
-      cond (at_stage Preparing (same_entry k i).stage)
-      (cond (leb g.first g.last) (cond (room (same_entry k i).rights.grants) (cond (same_clash g i) (Some Clash) None) (Some Full)) (Some Reversed))
-      (Some OtherStage)
+      cond (at_stage Preparing (same_entry k i).stage) (refusal_of (checked g (same_entry k i).rights.grants (same_clash g i))) (Some OtherStage)
   same_verdict k s seal = λ i. cond (at_stage Preparing (same_entry k i).stage) None (Some OtherStage)
   same_verdict k s close = λ i. cond (at_stage s (same_entry k i).stage) None (Some OtherStage)
 
 -- a program put into its bay
 pub changed_entries : (l : List Bay) (k : ℕ) (o : Option Program) → entries (changed o l k) ≡ entries l
 changed_entries l k None = refl
-changed_entries l k (Some p) = same_put l l refl k (with_program (bay_at l k) p) (bay_at l k) refl ∙ ap entries (put_same l k)
+changed_entries l k (Some p) = same_put l l refl k (with_program (bay_at l k) p.registers p.stop) (bay_at l k) refl ∙ ap entries (put_same l k)
 
 pub get_put : (x : Bay) (l : List Bay) (i j : ℕ) → ((j ≡ i) × (bay_at (put_bay l i x) j ≡ x)) ⊎ (bay_at (put_bay l i x) j ≡ bay_at l j)
 unfolding bay_at put_bay
@@ -107,11 +105,11 @@ program_put b c l m (suc i) (suc j) n f e = program_set b c l m i j n f e
 
 pub changed_other : (o : Option Program) (l : List Bay) (k j : ℕ) → j ≢ k → bay_at (changed o l k) j ≡ bay_at l j
 changed_other None l k j n = refl
-changed_other (Some p) l k j n = get_put_other (with_program (bay_at l k) p) l k j n
+changed_other (Some p) l k j n = get_put_other (with_program (bay_at l k) p.registers p.stop) l k j n
 
 pub changed_program : (o q : Option Program) (l m : List Bay) (k : ℕ) → length l ≡ length m → o ≡ q → program_of (bay_at l k) ≡ program_of (bay_at m k) → program_of (bay_at (changed o l k) k) ≡ program_of (bay_at (changed q m k) k)
 changed_program o q l m k n e s = subst (λ (x : Option Program). program_of (bay_at (changed o l k) k) ≡ program_of (bay_at (changed x m k) k)) e (on o)
   where
     on : (o : Option Program) → program_of (bay_at (changed o l k) k) ≡ program_of (bay_at (changed o m k) k)
     on None = s
-    on (Some p) = program_put (with_program (bay_at l k) p) (with_program (bay_at m k) p) l m k k n refl s
+    on (Some p) = program_put (with_program (bay_at l k) p.registers p.stop) (with_program (bay_at m k) p.registers p.stop) l m k k n refl s

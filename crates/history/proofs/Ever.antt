@@ -4,7 +4,7 @@ use Rattle.access.specs.declared.rights.Grant.{Grant}
 use Rattle.bays.specs.declared.bay.Bay.{Bay}
 use Rattle.bays.specs.declared.stage.Stage.{Stage}
 use Rattle.bays.specs.Bays.{bay_at}
-use Rattle.bays.specs.Grants.{reads, writes}
+use Rattle.bays.specs.Grants.{holds, excludes}
 use Rattle.history.specs.Calls.{Call}
 use Rattle.history.specs.Hall.{Hall, apply}
 
@@ -19,8 +19,8 @@ abbrev pub ever : (List (Option Grant) → Bool) → ℕ → List Call → Hall 
 ever f w [] H = f (grants_at H.bays w)
 ever f w (c ∷ h) H = f (grants_at H.bays w) || ever f w h (apply c H).hall
 
-abbrev pub ever_reads : ℕ → ℕ → List Call → Hall → Bool
-ever_reads w a h H = ever (λ gs. reads gs a) w h H
+abbrev pub ever_holds : ℕ → ℕ → List Call → Hall → Bool
+ever_holds w a h H = ever (λ gs. holds gs a) w h H
 
-abbrev pub ever_writes : ℕ → ℕ → List Call → Hall → Bool
-ever_writes w a h H = ever (λ gs. writes gs a) w h H
+abbrev pub ever_excludes : ℕ → ℕ → List Call → Hall → Bool
+ever_excludes w a h H = ever (λ gs. excludes gs a) w h H

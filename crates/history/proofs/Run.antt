@@ -2,11 +2,11 @@
 use Rattle.std.proofs.Common.{◌≡◌, ℕ, Bool, true, false, cond, not, T, eqb, ◌≢◌, List, [], ◌∷◌, refl, subst, T_not}
 use lib.Dec.{eqb_refl}
 use Rattle.bays.specs.declared.stage.Stage.{Stage}
-use Rattle.history.proofs.Ever.{grants_at, ever_reads}
+use Rattle.history.proofs.Ever.{grants_at, ever_holds}
 use Rattle.history.proofs.Basics.{by_test, or_left, or_right}
 use Rattle.history.proofs.Ledger.{Sound, sound_act}
 use Rattle.history.proofs.Sim.{Sim, Kept, kept_act, struck_own}
-use Rattle.bays.specs.Grants.{reads}
+use Rattle.bays.specs.Grants.{holds}
 use Rattle.history.specs.Calls.{Act, Answer, Call, own, shared}
 use Rattle.history.specs.Hall.{Hall, apply, apply_act}
 use Rattle.history.specs.History.{after, heard, keeps, keeps_act, struck}
@@ -15,7 +15,7 @@ pub sound_call : (c : Call) (H : Hall) → Sound H.bays → Sound (apply c H).ha
 sound_call c H G = sound_act c.bay c.held c.act H G
 
 kept_call : (w : ℕ) (Q : ℕ → Type 0) (c : Call) → T (keeps w c) → (H K : Hall) → Sound H.bays
-    → ((a : ℕ) → T (reads (grants_at H.bays w) a) → Q a) → Sim w Q H K → Kept w Q (apply c H) (apply c K)
+    → ((a : ℕ) → T (holds (grants_at H.bays w) a) → Q a) → Sim w Q H K → Kept w Q (apply c H) (apply c K)
 kept_call w Q c t H K G f S = kept_act w Q c.bay c.held c.act t H K G f S
 
 differs : (k w : ℕ) → T (not (eqb k w)) → k ≢ w
@@ -46,7 +46,7 @@ passed_over true x xs ys t q = absurd t
 passed_over false x xs ys t q = q
 
 -- a history in one hall, and the same history struck in the other
-pub paired : (w : ℕ) (Q : ℕ → Type 0) (h : List Call) (H K : Hall) → Sound H.bays → ((a : ℕ) → T (ever_reads w a h H) → Q a) → Sim w Q H K
+pub paired : (w : ℕ) (Q : ℕ → Type 0) (h : List Call) (H K : Hall) → Sound H.bays → ((a : ℕ) → T (ever_holds w a h H) → Q a) → Sim w Q H K
     → Paired w Q (heard w h H) (heard w (struck w h) K) (after h H) (after (struck w h) K)
 paired w Q [] H K G f S = record { answers = refl; sim = S }
 paired w Q (c ∷ h) H K G f S =

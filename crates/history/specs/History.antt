@@ -2,8 +2,8 @@
 use Rattle.std.specs.Prelude.{◌≡◌, ℕ, Bool, true, false, cond, not, ◌&&◌, ◌||◌, ◌≢◌, List, [], ◌∷◌, ◌==◌}
 use Rattle.bays.specs.Grants.{has}
 use Rattle.bays.specs.declared.stage.Stage.{Stage}
-use Rattle.access.specs.Access.{permits}
-use Rattle.access.specs.declared.stop.Access.TheVariants.{Write}
+use Rattle.access.specs.Kinds.{permits}
+use Rattle.access.specs.declared.kind.Use.TheVariants.{Clear}
 use Rattle.history.specs.Calls.{Act, Answer, Call, Own, close, copied, done, grant, open_bay, own, refused, seal, shared, shown, turned}
 use Rattle.history.specs.Hall.{Hall, apply}
 
@@ -45,7 +45,7 @@ not_refused (copied l) = true
 abbrev pub accepted : ℕ → Call → Hall → Bool
 accepted w c H = c.bay == w && not_refused (apply c H).answer
 
--- it is a grant that has the byte, of any kind or to write
+-- it is a grant that has the byte, of any kind or an exclusive one
 abbrev pub grants_byte : ℕ → Act → Bool
 grants_byte at (own i) = false
 grants_byte at (shared open_bay) = false
@@ -53,12 +53,12 @@ grants_byte at (shared (grant g)) = has g at
 grants_byte at (shared seal) = false
 grants_byte at (shared close) = false
 
-abbrev pub grants_write : ℕ → Act → Bool
-grants_write at (own i) = false
-grants_write at (shared open_bay) = false
-grants_write at (shared (grant g)) = permits g.kind Write && has g at
-grants_write at (shared seal) = false
-grants_write at (shared close) = false
+abbrev pub grants_exclusively : ℕ → Act → Bool
+grants_exclusively at (own i) = false
+grants_exclusively at (shared open_bay) = false
+grants_exclusively at (shared (grant g)) = permits g.kind Clear && has g at
+grants_exclusively at (shared seal) = false
+grants_exclusively at (shared close) = false
 
 abbrev pub is_close : Act → Bool
 is_close (own i) = false
@@ -72,16 +72,16 @@ abbrev pub granted : ℕ → ℕ → List Call → Hall → Bool
 granted w at [] H = false
 granted w at (c ∷ h) H = (grants_byte at c.act && accepted w c H) || granted w at h (apply c H).hall
 
--- the same, by a write grant
-abbrev pub granted_write : ℕ → ℕ → List Call → Hall → Bool
-granted_write w at [] H = false
-granted_write w at (c ∷ h) H = (grants_write at c.act && accepted w c H) || granted_write w at h (apply c H).hall
+-- the same, by an exclusive grant
+abbrev pub granted_exclusively : ℕ → ℕ → List Call → Hall → Bool
+granted_exclusively w at [] H = false
+granted_exclusively w at (c ∷ h) H = (grants_exclusively at c.act && accepted w c H) || granted_exclusively w at h (apply c H).hall
 
--- the byte is under a write grant of w at the end, until a close of w is accepted; u says whether it was at the start
-abbrev pub under_write : ℕ → ℕ → Bool → List Call → Hall → Bool
-under_write w at u [] H = u
-under_write w at u (c ∷ h) H =
-    under_write w at ((u || (grants_write at c.act && accepted w c H)) && not (is_close c.act && accepted w c H)) h (apply c H).hall
+-- the byte is under an exclusive grant of w at the end, until a close of w is accepted; u says whether it was at the start
+abbrev pub under_exclusive : ℕ → ℕ → Bool → List Call → Hall → Bool
+under_exclusive w at u [] H = u
+under_exclusive w at u (c ∷ h) H =
+    under_exclusive w at ((u || (grants_exclusively at c.act && accepted w c H)) && not (is_close c.act && accepted w c H)) h (apply c H).hall
 
 -- each bay's calls keep their order, and none passes an open, grant, seal or close
 abbrev pub Rearranged : List Call → List Call → Type 0

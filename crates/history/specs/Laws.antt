@@ -1,15 +1,15 @@
 -- The laws of every history, over every store and every book.
 use Rattle.std.specs.Prelude.{◌≡◌, ℕ, false, T, List, length, slice_index}
-use Rattle.book.specs.declared.book.Book.{Book}
+use Rattle.book.specs.declared.tables.Tables.{Tables}
 use Rattle.history.specs.Calls.{Call}
 use Rattle.history.specs.Hall.{Hall, new, over}
-use Rattle.history.specs.History.{Exchanged, Rearranged, after, answers, granted, granted_write, heard, struck, under_write}
+use Rattle.history.specs.History.{Exchanged, Rearranged, after, answers, granted, granted_exclusively, heard, struck, under_exclusive}
 
 -- a bay's answers depend on its own calls and granted bytes alone: two histories that leave the same list when the
 -- other bays' loads, sets, turns, looks and copies are struck out, over stores that agree on the bytes granted to it
 abbrev pub Isolation : Type 0
 Isolation =
-    (b : Book) (w : ℕ) (h h' : List Call) (s s' : List ℕ) → length s ≡ 65536 → length s' ≡ 65536
+    (b : Tables) (w : ℕ) (h h' : List Call) (s s' : List ℕ) → length s ≡ 65536 → length s' ≡ 65536
     → struck w h ≡ struck w h'
     → ((at : ℕ) → T (granted w at h (new b s)) → slice_index s at ≡ slice_index s' at)
     → heard w h (new b s) ≡ heard w h' (new b s')
@@ -17,21 +17,21 @@ Isolation =
 -- the order between bays does not matter: each call's answer and the last bytes are the same
 abbrev pub Order : Type 0
 Order =
-    (b : Book) (h h' : List Call) (s : List ℕ) → Rearranged h h'
+    (b : Tables) (h h' : List Call) (s : List ℕ) → Rearranged h h'
     → ((w : ℕ) → heard w h (new b s) ≡ heard w h' (new b s)) × ((after h (new b s)).bytes ≡ (after h' (new b s)).bytes)
 
 abbrev pub Exchange : Type 0
 Exchange =
-    (b : Book) (h h' : List Call) (s : List ℕ) → Exchanged h h'
+    (b : Tables) (h h' : List Call) (s : List ℕ) → Exchanged h h'
     → ((w : ℕ) → heard w h (new b s) ≡ heard w h' (new b s)) × ((after h (new b s)).bytes ≡ (after h' (new b s)).bytes)
 
--- a byte never under an accepted write grant is as it was new; one that was once, and is now under none, is zero
+-- a byte never under an accepted exclusive grant is as it was new; one that was once, and is now under none, is zero
 abbrev pub Confinement : Type 0
 Confinement =
-    (b : Book) (h : List Call) (s : List ℕ) (at : ℕ)
-    → (((k : ℕ) → T (granted_write k at h (new b s)) → ⊥) → slice_index (after h (new b s)).bytes at ≡ slice_index s at)
-    × ((k : ℕ) → T (granted_write k at h (new b s))
-    → ((j : ℕ) → T (under_write j at false h (new b s)) → ⊥)
+    (b : Tables) (h : List Call) (s : List ℕ) (at : ℕ)
+    → (((k : ℕ) → T (granted_exclusively k at h (new b s)) → ⊥) → slice_index (after h (new b s)).bytes at ≡ slice_index s at)
+    × ((k : ℕ) → T (granted_exclusively k at h (new b s))
+    → ((j : ℕ) → T (under_exclusive j at false h (new b s)) → ⊥)
     → slice_index (after h (new b s)).bytes at ≡ 0)
 
 -- what the store stands on matters to no call, and no call changes it

@@ -69,12 +69,14 @@ spelled Sim = codes "SIM"
 spelled Sfm = codes "SFM"
 spelled Bitl = codes "BITL"
 
--- the place of a name among all names, in the order in which the enum has them, which tells names apart
+-- the place of a name among all names, in the order of the enum, which tells names apart
 abbrev pub rank : Name → ℕ
 rank n = tag_of the_type n
 
 abbrev pub names_a : List Name
-names_a = Ldb ∷ Ld ∷ Ldw ∷ Ldx ∷ Stb ∷ St ∷ Stw ∷ Stx ∷ Ad ∷ Adw ∷ Sb ∷ Sbw ∷ Adx ∷ Sbx ∷ Cp ∷ Cpw ∷ Cpx ∷ Nw ∷ Nx ∷ Mx ∷ Dx ∷ Ldy ∷ Sty ∷ Ady ∷ Sby ∷ Ldz ∷ Stz ∷ Adz ∷ Sbz ∷ Bi ∷ Bli ∷ []
+names_a =
+    Ldb ∷ Ld ∷ Ldw ∷ Ldx ∷ Stb ∷ St ∷ Stw ∷ Stx ∷ Ad ∷ Adw ∷ Sb ∷ Sbw ∷ Adx ∷ Sbx ∷ Cp ∷ Cpw ∷ Cpx
+    ∷ Nw ∷ Nx ∷ Mx ∷ Dx ∷ Ldy ∷ Sty ∷ Ady ∷ Sby ∷ Ldz ∷ Stz ∷ Adz ∷ Sbz ∷ Bi ∷ Bli ∷ []
 
 abbrev pub names_l : List Name
 names_l = Ldl ∷ Adl ∷ Sbl ∷ Cpl ∷ Nl ∷ Ml ∷ Bitx ∷ Bz ∷ Bnz ∷ Bn ∷ Bnn ∷ Bca ∷ Bof ∷ []
@@ -83,8 +85,8 @@ abbrev pub names_b : List Name
 names_b = B ∷ Bl ∷ []
 
 -- the names that stand in no book
-abbrev pub names_fixed : List Name
-names_fixed = Mbs ∷ Cpbs ∷ Trbs ∷ Scbs ∷ Mhs ∷ Rk ∷ Hrk ∷ Sfn ∷ Sim ∷ Sfm ∷ Bitl ∷ []
+abbrev pub fixed_names : List Name
+fixed_names = Mbs ∷ Cpbs ∷ Trbs ∷ Scbs ∷ Mhs ∷ Rk ∷ Hrk ∷ Sfn ∷ Sim ∷ Sfm ∷ Bitl ∷ []
 
 -- the names that a letter has in a code book
 abbrev pub names_of : Letter → List Name
@@ -93,24 +95,18 @@ names_of letter.L = names_l
 names_of letter.B = names_b
 
 -- the name of a letter that is spelled so
-unfoldable pub named : Letter → List ℕ → Option Name
-named l s = first spelled (names_of l) s
+unfoldable pub name_under : Letter → List ℕ → Option Name
+name_under l s = first spelled (names_of l) s
 
-abbrev pub name_a : List ℕ → Option Name
-name_a s = named letter.A s
-
-abbrev pub name_l : List ℕ → Option Name
-name_l s = named letter.L s
-
-abbrev pub name_b : List ℕ → Option Name
-name_b s = named letter.B s
-
-unfoldable pub name_fixed : List ℕ → Option Name
-name_fixed s = first spelled names_fixed s
+-- the fixed name that is spelled so
+unfoldable pub fixed_name_of : List ℕ → Option Name
+fixed_name_of s = first spelled fixed_names s
 
 -- the name that is spelled so, of all
 abbrev pub name_of : List ℕ → Option Name
-name_of s = option_or (option_or (option_or (name_a s) (name_l s)) (name_b s)) (name_fixed s)
+name_of s =
+    option_or (option_or (option_or (name_under letter.A s) (name_under letter.L s)) (name_under letter.B s))
+    (fixed_name_of s)
 
 -- the same, or that there is none
 abbrev pub name_read : List ℕ → Result Name UnknownName

@@ -5,7 +5,7 @@ use std::fmt;
 use text::{Spelled, first_spelled};
 use thiserror::Error;
 
-// How the fields of an instruction word lie: five ways for the A instructions, and one each for L and B.
+/// How the fields of an instruction word lie: five ways for the A instructions, and one each for L and B.
 #[derive(Clone, Copy, PartialEq, Eq, Debug)]
 pub enum Format {
     A1,
@@ -17,7 +17,7 @@ pub enum Format {
     B,
 }
 
-// A text that spells no format.
+/// A text that spells no format.
 #[derive(Clone, Copy, PartialEq, Eq, Debug, Error)]
 #[error("no such format (A1, A2, A3, A4, A5, L, B)")]
 pub struct UnknownFormat;

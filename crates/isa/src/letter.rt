@@ -1,10 +1,10 @@
 ghost use Rattle.std.specs.Prelude.{◌≡◌};
-ghost use Rattle.isa.specs.Names.{names_of, named};
+ghost use Rattle.isa.specs.Names.{names_of, name_under};
 
 use crate::name::Name;
 use text::first_spelled;
 
-// The letter under which a code book has a name; the names of the fixed words have none.
+/// The letter under which a code book has a name; the names of the fixed words have none.
 #[derive(Clone, Copy, PartialEq, Eq, Debug)]
 pub enum Letter {
     A,
@@ -75,10 +75,10 @@ impl Letter {
         }
     }
 
-    // The name of this letter that the text spells.
-    #[tactic(auto, unfolding(crate::specs::Names::named))]
+    /// The name of this letter that the text spells.
+    #[tactic(auto, unfolding(crate::specs::Names::name_under))]
     pub fn name(self, text: &[u8]) -> Option<Name>
-        ensures { result ≡ named self text.now }
+        ensures { result ≡ name_under self text.now }
     {
         first_spelled(self.names(), text)
     }

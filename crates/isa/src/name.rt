@@ -1,12 +1,12 @@
 ghost use Rattle.std.specs.Prelude.{◌≡◌, Some};
-ghost use Rattle.isa.specs.Names.{spelled, name_fixed, name_of, name_read};
+ghost use Rattle.isa.specs.Names.{spelled, fixed_name_of, name_of, name_read};
 
 use crate::letter::Letter;
 use std::fmt;
 use text::{Spelled, first_spelled};
 use thiserror::Error;
 
-// The name of an instruction, in the order of the letters of a code book: A, L, B, and then those that are the same in every book.
+/// The name of an instruction, in the order of the letters of a code book: A, L, B, and then those that are the same in every book.
 #[derive(Clone, Copy, PartialEq, Eq, Debug)]
 pub enum Name {
     Ldb,
@@ -68,7 +68,7 @@ pub enum Name {
     Bitl,
 }
 
-// A text that spells no name.
+/// A text that spells no name.
 #[derive(Clone, Copy, PartialEq, Eq, Debug, Error)]
 #[error("no such name")]
 pub struct UnknownName;
@@ -161,9 +161,9 @@ impl fmt::Display for Name {
     }
 }
 
-#[tactic(auto, unfolding(crate::specs::Names::name_fixed))]
+#[tactic(auto, unfolding(crate::specs::Names::fixed_name_of))]
 fn fixed_name(text: &[u8]) -> Option<Name>
-    ensures { result ≡ name_fixed text.now }
+    ensures { result ≡ fixed_name_of text.now }
 {
     first_spelled(&FIXED_NAMES, text)
 }

@@ -1,12 +1,12 @@
 ghost use Rattle.std.specs.Prelude.{Some};
-ghost use Rattle.isa.specs.Readings.{written};
+ghost use Rattle.isa.specs.Readings.{reading_text};
 
 use crate::format::Format;
 use crate::name::Name;
 use std::fmt;
 
-// What a word means under a code book; a defined one has its name, its format, M and D. To be undefined is a reading too, which
-// programs print and a step obeys, and no failure to read: so it is no Result.
+/// What a word means under a code book; a defined one has its name, its format, M and D. To be undefined is a reading too, which
+/// programs print and a step obeys, and no failure to read: so it is no Result.
 #[derive(Clone, Copy, PartialEq, Eq, Debug)]
 pub enum Reading {
     Undefined,
@@ -20,7 +20,7 @@ pub enum Reading {
 }
 
 impl fmt::Display for Reading {
-    ghost output = { λ reading. Some (written reading) };
+    ghost output = { λ reading. Some (reading_text reading) };
 
     fn fmt<W: fmt::Write>(&self, f: &mut fmt::Formatter<W>) -> fmt::Result {
         match *self {

@@ -1,4 +1,3 @@
 mod Rest
 mod Columns
 mod Names
-mod Gather

@@ -1,32 +1,26 @@
 -- The fields of a line, read from the first on.
-use Rattle.std.specs.Prelude.{ℕ, ◌+◌, ◌*◌, not, cond, ◌&&◌, List, [], ◌∷◌, ◌++◌, Some, None, Ok, Err, codes, Option, Result, ◌==◌, nat_le}
+use Rattle.std.specs.Prelude.{ℕ, ◌+◌, ◌*◌, not, ◌&&◌, List, [], ◌∷◌, Some, None, Ok, Err, Option, Result, ◌==◌, nat_le, if◌then◌else◌}
 use Rattle.std.specs.Borrow.{Bor}
 use Rattle.std.specs.Option.{ok_or}
-use Rattle.std.specs.Str.{bytes_eq, is_utf8}
-use Rattle.text.specs.Search.{Bytes, empty}
+use Rattle.std.specs.Str.{is_utf8}
+use Rattle.text.specs.Search.{Bytes, empty, parts}
 use Rattle.text.specs.Numbers.{number_of}
-use Rattle.access.specs.Access.{bind}
+use Rattle.text.specs.Results as results
+use Rattle.access.specs.Kinds.{kind_of}
 use Rattle.access.specs.declared.rights.Grant.{Grant}
-use Rattle.access.specs.declared.rights.Kind.{Kind}
-use Rattle.access.specs.declared.rights.Kind.TheVariants as kinds
+use Rattle.access.specs.declared.kind.Kind.{Kind}
 use Rattle.machine.specs.declared.registers.Registers.{Registers}
 use Rattle.bays.specs.Bays.{zeros}
 use Rattle.job.specs.declared.area.Area.{Area}
 use Rattle.job.specs.declared.entry.Entry.{Entry}
 use Rattle.job.specs.declared.fault.Fault.{Fault}
 use Rattle.job.specs.declared.fault.Fault.TheVariants as fault
-use Rattle.job.specs.declared.fields.Fields.{Fields}
 use Rattle.job.specs.declared.job.Turns.{Turns}
 use Rattle.job.specs.Entries.{entry_read}
 
--- a field is gathered byte by byte up to a tab; it has begun with what stands in front
-abbrev pub gathered : Bytes → Bytes → List Bytes
-gathered front [] = front ∷ []
-gathered front (x ∷ xs) = cond (x == 9) (front ∷ gathered [] xs) (gathered (front ++ (x ∷ [])) xs)
-
 -- the fields that tabs part
 abbrev pub fields : Bytes → List Bytes
-fields s = gathered [] s
+fields s = parts 9 s
 
 -- what the first fields say, with the fields behind them, or the first fault
 abbrev pub Reader : Type 0 → Type 0
@@ -35,15 +29,16 @@ Reader X = List Bytes → Result (X × List Bytes) Fault
 -- one reader, and then another
 infixl 10 ◌>>=◌
 abbrev pub ◌>>=◌ : {X Y : Type 0} → Reader X → (X → Reader Y) → Reader Y
-r >>= f = λ fs. bind (r fs) (λ p. f p.0 p.1)
+r >>= f = λ fs. results.◌>>=◌ (r fs) (λ p. f p.0 p.1)
 
--- an answer that needs no field
+-- a value that needs no field
 abbrev pub give : {X : Type 0} → X → Reader X
 give x fs = Ok (x, fs)
 
-abbrev pub just : {X : Type 0} → Result X Fault → Reader X
-just (Err e) fs = Err e
-just (Ok x) fs = Ok (x, fs)
+-- an answer, with the fields that are left
+abbrev pub answer : {X : Type 0} → Result X Fault → Reader X
+answer (Err e) fs = Err e
+answer (Ok x) fs = Ok (x, fs)
 
 abbrev pub a_field : Reader Bytes
 a_field [] = Err fault.Fields
@@ -53,12 +48,12 @@ a_field (s ∷ fs) = Ok (s, fs)
 abbrev pub an_entry : Reader Entry
 an_entry = do
   name ← a_field
-  just (entry_read name)
+  answer (entry_read name)
 
 abbrev pub a_number : ℕ → ℕ → Reader ℕ
 a_number low high = do
   digits ← a_field
-  just (ok_or (number_of low high digits) fault.Number)
+  answer (ok_or (number_of low high digits) fault.Number)
 
 abbrev pub a_half : Reader ℕ
 a_half = a_number 0 65535
@@ -69,14 +64,10 @@ a_full = a_number 0 4294967295
 abbrev pub a_bay : Reader ℕ
 a_bay = a_number 1 8
 
--- a grant to read, or to read and write
-abbrev pub kind_of : Bytes → Result Kind Fault
-kind_of s = cond (bytes_eq s (codes "read")) (Ok kinds.Read) (cond (bytes_eq s (codes "write")) (Ok kinds.Write) (Err fault.Kind))
-
 abbrev pub a_kind : Reader Kind
 a_kind = do
   word ← a_field
-  just (kind_of word)
+  answer (ok_or (kind_of word) fault.Kind)
 
 abbrev pub a_grant : Reader Grant
 a_grant = do
@@ -99,17 +90,22 @@ some_registers = do
 
 -- so many halfwords from an address on, if they lie in the store whole
 abbrev pub area_at : ℕ → ℕ → Option Area
-area_at address halfwords = cond (nat_le (address + 2 * halfwords) 65536) (Some (record { address = address; halfwords = halfwords })) None
+area_at address halfwords =
+    if nat_le (address + 2 * halfwords) 65536
+    then Some (record { address = address; halfwords = halfwords })
+    else None
 
 -- one halfword at least
 abbrev pub area_of : ℕ → ℕ → Result Area Fault
-area_of address halfwords = cond (halfwords == 0) (Err fault.Number) (ok_or (area_at address halfwords) fault.Outside)
+area_of address halfwords =
+    if halfwords == 0 then Err fault.Number
+    else ok_or (area_at address halfwords) fault.Outside
 
 abbrev pub an_area : Reader Area
 an_area = do
   address ← a_half
   halfwords ← a_half
-  just (area_of address halfwords)
+  answer (area_of address halfwords)
 
 abbrev pub some_turns : Reader Turns
 some_turns = do
@@ -119,27 +115,24 @@ some_turns = do
 
 -- the name of a file: UTF-8, and not empty
 abbrev pub name_of : Bytes → Result Bytes Fault
-name_of s = cond (is_utf8 s && not (empty s)) (Ok s) (Err fault.Text)
+name_of s = if is_utf8 s && not (empty s) then Ok s else Err fault.Text
 
 abbrev pub a_file : Reader Bytes
 a_file = do
   name ← a_field
-  just (name_of name)
+  answer (name_of name)
 
 -- no field is left
 abbrev pub ended : List Bytes → Result (Unit {0}) Fault
 ended [] = Ok tt
 ended (s ∷ fs) = Err fault.Fields
 
--- what is left of a line that is read
-abbrev pub left_in : Option (Bor Bytes) → List Bytes
-left_in None = []
-left_in (Some r) = fields r.now
+-- the fields of what is left of a line
+abbrev pub fields_in : Option (Bor Bytes) → List Bytes
+fields_in None = []
+fields_in (Some r) = fields r.now
 
-abbrev pub left : Fields → List Bytes
-left f = left_in f.rest
-
--- what was read, as view shows it, and the fields that are left, or the fault
-abbrev pub taken : {X Y : Type 0} → (X → Y) → Result X Fault → List Bytes → Result (Y × List Bytes) Fault
-taken view (Err e) fs = Err e
-taken view (Ok x) fs = Ok (view x, fs)
+-- the bytes that were read
+abbrev pub shown_bytes : Result (Bor Bytes) Fault → Result Bytes Fault
+shown_bytes (Err e) = Err e
+shown_bytes (Ok r) = Ok r.now

@@ -1,7 +1,7 @@
 ghost use Rattle.std.specs.Prelude.{◌≡◌, ◌*◌};
 ghost use Rattle.job.specs.Fields.{area_at};
 
-// So many halfwords of the store, from an address on.
+/// So many halfwords of the store, from an address on.
 #[derive(Clone, Copy, PartialEq, Eq, Debug)]
 pub struct Area {
     pub address: u16,
@@ -9,7 +9,7 @@ pub struct Area {
 }
 
 impl Area {
-    // None where it does not lie in the store whole.
+    /// None where it does not lie in the store whole.
     pub fn new(address: u16, halfwords: u16) -> Option<Area>
         ensures { result ≡ area_at address halfwords }
     {

@@ -1,18 +1,21 @@
 ghost use Rattle.std.specs.Prelude.{◌≡◌};
-ghost use Rattle.job.specs.Fields.{fields, left, taken};
-ghost use Rattle.job.specs.Lines.{first_time, granted, entered, by_fields, line_rule, left_by, so_far};
-ghost use Rattle.job.specs.Text.{finished, spoken};
+ghost use Rattle.job.specs.Fields.{answer, fields};
+ghost use Rattle.job.specs.Lines.{by_fields, entered, first_time, granted, line_rule, so_far, SoFar};
+ghost use Rattle.job.specs.Text.{finished, shown_job};
+ghost use Rattle.job.specs.declared.fault.Fault.TheVariants.{Unended};
+ghost use Rattle.text.specs.TakeLine.{outcome};
 
 use crate::area::Area;
 use crate::entry::Entry;
 use crate::fault::Fault;
 use crate::fields::Fields;
 use crate::job::{Job, Turns};
-use access::{Access, Grant, Rights};
-use bays::{clash_with_any, first_vacant};
+use access::{Grant, Rights, Use};
+use bays::{check_grant, clash_with_any};
 use machine::Registers;
+use text::TakeLine;
 
-// A job as far as it has been read.
+/// A job as far as it has been read.
 #[derive(Default, Drop)]
 pub struct Draft<'a> {
     number: Option<u8>,
@@ -27,7 +30,7 @@ pub struct Draft<'a> {
 
 // The value of the entry, where none was there before.
 fn once<T: Drop>(slot: &mut Option<T>, entry: Entry, value: T) -> Result<(), Fault>
-    ensures { left_by result slot.new ≡ first_time entry slot.old value }
+    ensures { outcome result slot.new ≡ first_time entry slot.old value }
 {
     match slot.replace(value) {
         None => Ok(()),
@@ -35,17 +38,12 @@ fn once<T: Drop>(slot: &mut Option<T>, entry: Entry, value: T) -> Result<(), Fau
     }
 }
 
-// One grant more, or a refusal, in the order in which a hall refuses.
+// One grant more, or the refusal of a hall that is asked for it.
 fn add_grant(grants: &mut [Option<Grant>; 6], grant: Grant) -> Result<(), Fault>
-    ensures { left_by result grants.new ≡ granted grants.old grant }
+    ensures { outcome result grants.new ≡ granted grants.old grant }
 {
-    if grant.last < grant.first {
-        return Err(Fault::Reversed);
-    }
-    let place = first_vacant(grants).ok_or(Fault::SeventhGrant)?;
-    if clash_with_any(grant, grants) {
-        return Err(Fault::Clash);
-    }
+    let clashes = clash_with_any(grant, grants);
+    let place = check_grant(grant, grants, clashes)?;
     grants[place] = Some(grant);
     Ok(())
 }
@@ -53,7 +51,8 @@ fn add_grant(grants: &mut [Option<Grant>; 6], grant: Grant) -> Result<(), Fault>
 impl<'a> Draft<'a> {
     // Takes up the values of an entry.
     fn take_entry(&mut self, entry: Entry, fields: &mut Fields<'a>) -> Result<(), Fault>
-        ensures { taken (λ _. so_far self.new) result (left fields.new) ≡ entered (so_far self.old) entry (left fields.old) }
+        ensures { answer (outcome result (so_far self.new)) fields.new
+            ≡ entered (so_far self.old) entry fields.old }
     {
         match entry {
             Entry::Bay => once(&mut self.number, entry, fields.bay()?),
@@ -68,7 +67,8 @@ impl<'a> Draft<'a> {
     }
 
     fn take_fields(&mut self, line: &'a [u8]) -> Result<(), Fault>
-        ensures { left_by result (so_far self.new) ≡ by_fields (so_far self.old) (fields line.now) }
+        ensures { outcome result (so_far self.new)
+            ≡ by_fields (so_far self.old) (fields line.now) }
     {
         let mut fields = Fields::new(line);
         let entry = Entry::try_from(fields.next_field()?)?;
@@ -76,21 +76,10 @@ impl<'a> Draft<'a> {
         fields.end()
     }
 
-    // What one line says; empty lines and comments say nothing.
-    #[tactic(auto, unfolding(crate::specs::Lines::line_rule))]
-    pub fn take_line(&mut self, line: &'a [u8]) -> Result<(), Fault>
-        ensures { left_by result (so_far self.new) ≡ line_rule (so_far self.old) line.now }
-    {
-        match line {
-            [] | [b'#', ..] => Ok(()),
-            _ => self.take_fields(line),
-        }
-    }
-
-    // The whole job: each entry is there, records can be put in, and results can be taken.
+    /// The whole job: each entry is there, records can be put in, and results can be taken.
     #[tactic(auto, unfolding(crate::specs::Text::finished))]
     pub fn finish(self) -> Result<Job<'a>, Fault>
-        ensures { spoken result ≡ finished (so_far self.entry) }
+        ensures { shown_job result ≡ finished (so_far self.entry) }
     {
         let Draft {
             number,
@@ -104,7 +93,7 @@ impl<'a> Draft<'a> {
         } = self;
         let job = Job {
             number: number.ok_or(Fault::Missing(Entry::Bay))?,
-            rights: Rights { grants },
+            rights: Rights::new(grants),
             registers: registers.ok_or(Fault::Missing(Entry::Registers))?,
             input: input.ok_or(Fault::Missing(Entry::Input))?,
             output: output.ok_or(Fault::Missing(Entry::Output))?,
@@ -118,12 +107,39 @@ impl<'a> Draft<'a> {
             output,
             ..
         } = &job;
-        if !rights.reaches(Access::Write, input.address, input.bytes()) {
+        if !rights.reach(Use::Load, input.address, input.bytes()) {
             return Err(Fault::Denied(Entry::Input));
         }
-        if !rights.reaches(Access::Read, output.address, output.bytes()) {
+        if !rights.reach(Use::Copy, output.address, output.bytes()) {
             return Err(Fault::Denied(Entry::Output));
         }
         Ok(job)
+    }
+}
+
+impl<'a> TakeLine<'a> for Draft<'a> {
+    type Fault = Fault;
+
+    ghost Said = { SoFar };
+
+    ghost said = { so_far };
+
+    ghost line_rule = { line_rule };
+
+    ghost unended = { Unended };
+
+    // Empty lines and comments say nothing.
+    #[tactic(auto, unfolding(crate::specs::Lines::line_rule))]
+    fn take_line(&mut self, line: &'a [u8]) -> Result<(), Fault> {
+        match line {
+            [] | [b'#', ..] => Ok(()),
+            _ => self.take_fields(line),
+        }
+    }
+
+    fn unended() -> Fault
+        ensures { result ≡ Unended }
+    {
+        Fault::Unended
     }
 }

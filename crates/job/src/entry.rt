@@ -2,10 +2,10 @@ ghost use Rattle.std.specs.Prelude.{◌≡◌, Some};
 ghost use Rattle.job.specs.Entries.{spelled, entry_read};
 
 use crate::fault::Fault;
-use text::{Spelled, first_spelled};
 use std::fmt;
+use text::{Spelled, first_spelled};
 
-// What a line of a job is about, by its first field.
+/// What a line of a job is about, by its first field.
 #[derive(Clone, Copy, PartialEq, Eq, Debug)]
 pub enum Entry {
     Bay,

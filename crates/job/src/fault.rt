@@ -1,11 +1,14 @@
 ghost use Rattle.std.specs.Prelude.{◌≡◌};
-ghost use Rattle.job.specs.declared.fault.Fault.TheVariants.{Unended};
+ghost use Rattle.job.specs.Faults.{grant_fault};
+ghost use Rattle.job.specs.declared.fault.Fault.TheVariants.{Kind as OfKind};
 
 use crate::entry::Entry;
-use text::Unended;
+use access::UnknownKind;
+use bays::Refusal;
+use text::AtLine;
 use thiserror::Error;
 
-// What is wrong with a line of a job, or with the whole of it.
+/// What is wrong with a line of a job, or with the whole of it.
 #[derive(Clone, Copy, PartialEq, Eq, Debug, Error)]
 pub enum Fault {
     #[error("the line lacks its line feed")]
@@ -36,22 +39,26 @@ pub enum Fault {
     Denied(Entry),
 }
 
-// A refused job, with the number of the line; past the last line where something is missing. It has a type of its own, for
-// the reason that a listing's has (`listing::Refused`).
-#[derive(Clone, Copy, PartialEq, Eq, Debug, Error)]
-#[error("line {line}: {fault}")]
-pub struct Refused {
-    pub fault: Fault,
-    pub line: usize,
+/// The first fault of a job, with the number of its line; past the last line where something is missing.
+pub type Refused = AtLine<Fault>;
+
+impl From<UnknownKind> for Fault {
+    ghost from_gives = { λ _ fault. fault ≡ OfKind };
+
+    fn from(_kind: UnknownKind) -> Fault {
+        Fault::Kind
+    }
 }
 
-impl From<Unended> for Refused {
-    ghost from_gives = { λ unended refused. refused ≡ record { fault = Unended; line = unended.line } };
+// A grant is refused for one of three reasons.
+impl From<Refusal> for Fault {
+    ghost from_gives = { λ refusal fault. fault ≡ grant_fault refusal };
 
-    fn from(unended: Unended) -> Refused {
-        Refused {
-            fault: Fault::Unended,
-            line: unended.line,
+    fn from(refusal: Refusal) -> Fault {
+        match refusal {
+            Refusal::Reversed => Fault::Reversed,
+            Refusal::Full => Fault::SeventhGrant,
+            _ => Fault::Clash,
         }
     }
 }

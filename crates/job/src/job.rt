@@ -2,15 +2,15 @@ use crate::area::Area;
 use access::Rights;
 use machine::Registers;
 
-// At most so many turns, each of that budget.
+/// At most so many turns, each of that budget.
 #[derive(Clone, Copy, PartialEq, Eq, Debug)]
 pub struct Turns {
     pub count: u16,
     pub budget: u16,
 }
 
-// What one job says. For each record: it goes to `input`, the program starts from `registers`
-// and takes its turns, and `output` is taken after them.
+/// What one job says. For each record: it goes to `input`, the program starts from `registers`
+/// and takes its turns, and `output` is taken after them.
 #[derive(Drop)]
 pub struct Job<'a> {
     pub number: u8,

@@ -1,4 +1,5 @@
-// A job: which program a bay runs, from which registers, over which records.
+// A job: which program a bay runs, from which registers, over which records. `read_job` reads its text, and `run_record` runs one record
+// of it. Begin with `Job`; specs/Text.antt says what a text of a job says.
 #![tactic(auto)]
 
 mod area;

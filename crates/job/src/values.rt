@@ -1,5 +1,5 @@
 ghost use Rattle.std.specs.Prelude.{◌≡◌, ◌≤◌, IfOk};
-ghost use Rattle.job.specs.Fields.{a_number, a_half, a_full, a_bay, a_file, a_kind, a_grant, some_registers, an_area, some_turns, left, taken};
+ghost use Rattle.job.specs.Fields.{a_bay, a_file, a_full, a_grant, a_half, a_kind, a_number, an_area, answer, shown_bytes, some_registers, some_turns};
 
 use crate::area::Area;
 use crate::fault::Fault;
@@ -14,32 +14,32 @@ use text::decimal;
 // says which of three things is wrong.
 impl<'a> Fields<'a> {
     fn number(&mut self, low: u32, high: u32) -> Result<u32, Fault>
-        ensures is { taken (λ n. n) result (left self.new) ≡ a_number low high (left self.old) }
+        ensures is { answer result self.new ≡ a_number low high self.old }
         ensures within { IfOk result (λ n. n ≤ high) }
     {
         decimal(self.next_field()?, low, high).ok_or(Fault::Number)
     }
 
     fn half(&mut self) -> Result<u16, Fault>
-        ensures { taken (λ n. n) result (left self.new) ≡ a_half (left self.old) }
+        ensures { answer result self.new ≡ a_half self.old }
     {
         Ok(self.number(0, 65535)? as u16)
     }
 
     fn full(&mut self) -> Result<u32, Fault>
-        ensures { taken (λ n. n) result (left self.new) ≡ a_full (left self.old) }
+        ensures { answer result self.new ≡ a_full self.old }
     {
         self.number(0, u32::MAX)
     }
 
     pub fn bay(&mut self) -> Result<u8, Fault>
-        ensures { taken (λ n. n) result (left self.new) ≡ a_bay (left self.old) }
+        ensures { answer result self.new ≡ a_bay self.old }
     {
         Ok(self.number(1, 8)? as u8)
     }
 
     pub fn file(&mut self) -> Result<&'a str, Fault>
-        ensures { taken (λ s. s.now) result (left self.new) ≡ a_file (left self.old) }
+        ensures { answer (shown_bytes result) self.new ≡ a_file self.old }
     {
         let Ok(name) = str::from_utf8(self.next_field()?) else {
             return Err(Fault::Text);
@@ -51,17 +51,13 @@ impl<'a> Fields<'a> {
     }
 
     fn kind(&mut self) -> Result<Kind, Fault>
-        ensures { taken (λ k. k) result (left self.new) ≡ a_kind (left self.old) }
+        ensures { answer result self.new ≡ a_kind self.old }
     {
-        match self.next_field()? {
-            b"read" => Ok(Kind::Read),
-            b"write" => Ok(Kind::Write),
-            _ => Err(Fault::Kind),
-        }
+        Ok(Kind::try_from(self.next_field()?)?)
     }
 
     pub fn grant(&mut self) -> Result<Grant, Fault>
-        ensures { taken (λ g. g) result (left self.new) ≡ a_grant (left self.old) }
+        ensures { answer result self.new ≡ a_grant self.old }
     {
         Ok(Grant {
             kind: self.kind()?,
@@ -71,7 +67,7 @@ impl<'a> Fields<'a> {
     }
 
     pub fn registers(&mut self) -> Result<Registers, Fault>
-        ensures { taken (λ r. r) result (left self.new) ≡ some_registers (left self.old) }
+        ensures { answer result self.new ≡ some_registers self.old }
     {
         Ok(Registers {
             a: self.full()?,
@@ -86,7 +82,7 @@ impl<'a> Fields<'a> {
     }
 
     pub fn area(&mut self) -> Result<Area, Fault>
-        ensures { taken (λ a. a) result (left self.new) ≡ an_area (left self.old) }
+        ensures { answer result self.new ≡ an_area self.old }
     {
         let address = self.half()?;
         match self.half()? {
@@ -96,7 +92,7 @@ impl<'a> Fields<'a> {
     }
 
     pub fn turns(&mut self) -> Result<Turns, Fault>
-        ensures { taken (λ t. t) result (left self.new) ≡ some_turns (left self.old) }
+        ensures { answer result self.new ≡ some_turns self.old }
     {
         Ok(Turns {
             count: self.half()?,

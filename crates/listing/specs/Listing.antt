@@ -1,11 +1,12 @@
 -- The whole of a listing.
-use Rattle.std.specs.Prelude.{ℕ, ◌+◌, Bool, true, false, cond, List, [], ◌∷◌, ◌++◌, Some, None, Ok, Err, Option, Result, ◌==◌, nat_lt}
-use Rattle.text.specs.Search.{Bytes, empty}
-use Rattle.text.specs.Next.{left}
+use Rattle.std.specs.Prelude.{ℕ, ◌+◌, Bool, true, false, List, [], ◌∷◌, Some, None, Ok, Err, Option, Result, nat_lt, if◌then◌else◌}
+use Rattle.text.specs.declared.fault.AtLine.{AtLine}
+use Rattle.text.specs.Lines.{whole}
+use Rattle.text.specs.LineRule.{LineRule, rest_read}
+use Rattle.text.specs.Search.{Bytes}
 use Rattle.book.specs.declared.tables.Tables.{Tables}
 use Rattle.listing.specs.declared.fault.Fault.{Fault}
 use Rattle.listing.specs.declared.fault.Fault.TheVariants.{Unended, Below, Past, Number}
-use Rattle.listing.specs.declared.fault.Refused.{Refused}
 use Rattle.listing.specs.declared.listing.Listing.{Listing}
 use Rattle.listing.specs.declared.placed.Placed.{Placed}
 use Rattle.listing.specs.Numbers.{half_of}
@@ -14,68 +15,78 @@ use Rattle.listing.specs.Line.{Says, a_word, halfwords, Line, line_rule}
 
 -- the halfwords that are placed, in their order, or the first fault with its line
 abbrev pub Read : Type 0
-Read = Result (List Placed) Refused
+Read = Result (List Placed) (AtLine Fault)
 
-abbrev pub fault_at : ℕ → Fault → Refused
-fault_at n f = record { fault = f; line = n }
+-- one halfword more, in front of what follows
+abbrev pub placed_before : Placed → Read → Read
+placed_before p (Err e) = Err e
+placed_before p (Ok ps) = Ok (p ∷ ps)
 
--- a fault is one of line n
-abbrev pub at_line : {X : Type 0} → ℕ → Result X Fault → Result X Refused
-at_line n (Err f) = Err (fault_at n f)
-at_line n (Ok x) = Ok x
-
-abbrev pub one : Result Placed Fault → Result (Option Placed) Fault
-one (Err f) = Err f
-one (Ok p) = Ok (Some p)
-
-abbrev pub more : Placed → Read → Read
-more p (Err e) = Err e
-more p (Ok ps) = Ok (p ∷ ps)
-
-abbrev pub given_1 : Option Placed → Read → Read
-given_1 None after = Ok []
-given_1 (Some p) after = more p after
+abbrev pub some_before : Option Placed → Read → Read
+some_before None after = Ok []
+some_before (Some p) after = placed_before p after
 
 -- an answer, and what comes after it
-abbrev pub given : Result (Option Placed) Refused → Read → Read
-given (Err e) after = Err e
-given (Ok o) after = given_1 o after
+abbrev pub answer_before : Result (Option Placed) (AtLine Fault) → Read → Read
+answer_before (Err e) after = Err e
+answer_before (Ok o) after = some_before o after
 
--- a halfword of line n at the address e, unless it lies past 65,535
-abbrev pub place_rule : ℕ → ℕ → ℕ → Bool → Result (Option Placed) Refused
-place_rule n e h c = cond (nat_lt e 65536) (Ok (Some (record { address = e; halfword = h; code = c }))) (Err (fault_at n Past))
+-- a halfword at the address e, unless it lies past 65,535
+abbrev pub place_rule : ℕ → ℕ → Bool → Result Placed Fault
+place_rule e h c =
+    if nat_lt e 65536 then Ok (record { address = e; halfword = h; code = c })
+    else Err Past
 
-abbrev pub half_go : ℕ → ℕ → Option ℕ → (ℕ → Read) → Read
-half_go n e None k = Err (fault_at n Number)
-half_go n e (Some h) k = given (place_rule n e h false) (k (e + 2))
+-- the end after a halfword at e
+abbrev pub end_after : ℕ → ℕ
+end_after e = if nat_lt e 65536 then e + 2 else e
+
+-- a halfword of line n, and what comes after it
+abbrev pub halfword_placed : ℕ → Result Placed Fault → Read → Read
+halfword_placed n (Err f) after = Err (record { fault = f; line = n })
+halfword_placed n (Ok p) after = placed_before p after
+
+abbrev pub number_placed : ℕ → ℕ → Option ℕ → (ℕ → Read) → Read
+number_placed n e None k = Err (record { fault = Number; line = n })
+number_placed n e (Some h) k = halfword_placed n (place_rule e h false) (k (e + 2))
 
 -- the halfwords of line n from the address e on, and then the lines after it
-abbrev pub halfs : ℕ → ℕ → List Bytes → (ℕ → Read) → Read
-halfs n e [] k = k e
-halfs n e (w ∷ ws) k = half_go n e (half_of w) (λ e'. halfs n e' ws k)
+abbrev pub numbers_placed : ℕ → ℕ → List Bytes → (ℕ → Read) → Read
+numbers_placed n e [] k = k e
+numbers_placed n e (w ∷ ws) k = number_placed n e (half_of w) (λ e'. numbers_placed n e' ws k)
 
-abbrev pub content_go : ℕ → ℕ → Says → (ℕ → Read) → Read
-content_go n a (a_word w) k = given (place_rule n a w true) (k (a + 2))
-content_go n a (halfwords ws) k = halfs n a ws k
+abbrev pub content_placed : ℕ → ℕ → Says → (ℕ → Read) → Read
+content_placed n a (a_word w) k = halfword_placed n (place_rule a w true) (k (a + 2))
+content_placed n a (halfwords ws) k = numbers_placed n a ws k
 
 -- a line places nothing below the end e of what lies before
-abbrev pub entry_go : ℕ → ℕ → Option (ℕ × Says) → (ℕ → Read) → Read
-entry_go n e None k = k e
-entry_go n e (Some p) k = cond (nat_lt p.0 e) (Err (fault_at n Below)) (content_go n p.0 p.1 k)
+abbrev pub entry_placed : ℕ → ℕ → Option (ℕ × Says) → (ℕ → Read) → Read
+entry_placed n e None k = k e
+entry_placed n e (Some p) k =
+    if nat_lt p.0 e then Err (record { fault = Below; line = n })
+    else content_placed n p.0 p.1 k
 
-abbrev pub line_go : ℕ → ℕ → Line → (ℕ → Read) → Read
-line_go n e (Err f) k = Err (fault_at n f)
-line_go n e (Ok o) k = entry_go n e o k
+abbrev pub line_placed : ℕ → ℕ → Line → (ℕ → Read) → Read
+line_placed n e (Err f) k = Err (record { fault = f; line = n })
+line_placed n e (Ok o) k = entry_placed n e o k
 
--- the text is gathered byte by byte into lines; line n has begun with what stands in front
-abbrev pub gather : Tables → Bytes → ℕ → ℕ → Bytes → Read
-gather t front n e [] = cond (empty front) (Ok []) (Err (fault_at n Unended))
-gather t front n e (x ∷ xs) = cond (x == 10) (line_go n e (line_rule t (words (uncommented front))) (λ e'. gather t [] (n + 1) e' xs)) (gather t (front ++ (x ∷ [])) n e xs)
+-- each line goes on at the end of what the lines before it place
+abbrev pub placing : Tables → LineRule ℕ Read
+placing t = record {
+  line = λ n e l k. line_placed n e (line_rule t (words (uncommented l))) k;
+  end = λ n e. Ok [];
+  unended = λ n. Err (record { fault = Unended; line = n });
+}
 
 -- what a listing places
 abbrev pub listing : Tables → Bytes → Read
-listing t s = gather t [] 1 0 s
+listing t s = rest_read (placing t) 0 (whole s)
 
--- what is left of a listing
-abbrev pub todo : Tables → Listing → Read
-todo t r = halfs r.line r.end (words r.rest.now) (λ e. gather t [] r.lines.line e (left r.lines))
+-- what is left of a listing: the halfwords of the line in hand, and the lines after it
+abbrev pub remaining : Tables → Listing → Read
+remaining t r =
+    numbers_placed r.line r.end (words r.rest.now) (λ e. rest_read (placing t) e r.lines)
+
+-- the end of what was placed
+abbrev pub end_of : Listing → ℕ
+end_of r = r.end

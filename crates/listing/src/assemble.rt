@@ -1,7 +1,7 @@
 ghost use Rattle.std.specs.Prelude.{◌≡◌, Ok};
 ghost use Rattle.listing.specs.Listing.{listing};
-ghost use Rattle.listing.specs.Assembled.{told, kept, wrote};
-ghost use Rattle.listing.specs.Laws.{Laid};
+ghost use Rattle.listing.specs.Assembled.{answer_of, assembled, bytes_after, with_placed};
+ghost use Rattle.listing.specs.Laws.{IsLaid};
 
 use crate::fault::Refused;
 use crate::listing::Listing;
@@ -11,7 +11,7 @@ use store::{Store, write_all};
 
 // Reads the whole text, and says whether it is a listing under the book.
 fn check_text(book: &Book, text: &[u8]) -> Result<(), Refused>
-    ensures { result ≡ told (listing book.now.tables text.now) }
+    ensures { result ≡ answer_of (listing book.now.tables text.now) }
 {
     let mut reader = Listing::new(text);
     'halfwords: while reader.next_placed(book)?.is_some() {}
@@ -19,15 +19,16 @@ fn check_text(book: &Book, text: &[u8]) -> Result<(), Refused>
 }
 
 fn write_halfword<S: Store>(store: &mut S, placed: Placed)
-    ensures { S.Store.bytes store.new ≡ wrote (S.Store.bytes store.old) placed }
+    ensures { S.Store.bytes store.new ≡ with_placed (S.Store.bytes store.old) placed }
 {
     write_all(store, placed.address, &placed.halfword.to_be_bytes());
 }
 
 // Writes what a text that was checked places.
 fn write_text<S: Store>(book: &Book, text: &[u8], store: &mut S)
-    requires { told (listing book.now.tables text.now) ≡ Ok tt }
-    ensures { S.Store.bytes store.new ≡ kept (S.Store.bytes store.old) (listing book.now.tables text.now) }
+    requires { answer_of (listing book.now.tables text.now) ≡ Ok tt }
+    ensures { S.Store.bytes store.new
+        ≡ bytes_after (S.Store.bytes store.old) (listing book.now.tables text.now) }
 {
     let mut reader = Listing::new(text);
     'halfwords: while let Ok(Some(placed)) = reader.next_placed(book) {
@@ -35,11 +36,12 @@ fn write_text<S: Store>(book: &Book, text: &[u8], store: &mut S)
     }
 }
 
-// Writes what the listing places into the store; a listing that is refused leaves the store as it was.
+/// Writes what the listing places into the store; a listing that is refused leaves the store as it was.
 pub fn assemble_into<S: Store>(book: &Book, text: &[u8], store: &mut S) -> Result<(), Refused>
-    ensures answer { result ≡ told (listing book.now.tables text.now) }
-    ensures after { S.Store.bytes store.new ≡ kept (S.Store.bytes store.old) (listing book.now.tables text.now) }
-    ensures laid { Laid (listing book.now.tables text.now) (S.Store.bytes store.old) (S.Store.bytes store.new) }
+    ensures is { (result, S.Store.bytes store.new)
+        ≡ assembled (S.Store.bytes store.old) (listing book.now.tables text.now) }
+    ensures laid { IsLaid (listing book.now.tables text.now)
+        (S.Store.bytes store.old) (S.Store.bytes store.new) }
 {
     check_text(book, text)?;
     write_text(book, text, store);

@@ -1,12 +1,12 @@
 ghost use Rattle.std.specs.Prelude.{◌≡◌};
-ghost use Rattle.listing.specs.declared.fault.Fault.TheVariants.{Unended as NoLineFeed, Name, Format, Put};
+ghost use Rattle.listing.specs.declared.fault.Fault.TheVariants.{Unended as NoLineFeed, Name, Format, Encode};
 
 use book::EncodeError;
 use isa::{UnknownFormat, UnknownName};
-use text::Unended;
+use text::{AtLine, Unended};
 use thiserror::Error;
 
-// What is wrong with a line of a listing.
+/// What is wrong with a line of a listing.
 #[derive(Clone, Copy, PartialEq, Eq, Debug, Error)]
 pub enum Fault {
     #[error("the line lacks its line feed")]
@@ -26,18 +26,11 @@ pub enum Fault {
     #[error("not a number, or out of range")]
     Number,
     #[error("{0}")]
-    Put(EncodeError),
+    Encode(EncodeError),
 }
 
-// The first fault of a listing, with the number of its line. A book's, a listing's and a job's refusal have a type each, not one over
-// the fault: a book's prints its number before its fault, and for the other two that type would want a crate below both, bounds for its
-// `Display` and its `From<Unended>`, and an alias in each.
-#[derive(Clone, Copy, PartialEq, Eq, Debug, Error)]
-#[error("line {line}: {fault}")]
-pub struct Refused {
-    pub fault: Fault,
-    pub line: usize,
-}
+/// The first fault of a listing, with the number of its line.
+pub type Refused = AtLine<Fault>;
 
 impl From<Unended> for Fault {
     ghost from_gives = { λ _ fault. fault ≡ NoLineFeed };
@@ -64,9 +57,9 @@ impl From<UnknownFormat> for Fault {
 }
 
 impl From<EncodeError> for Fault {
-    ghost from_gives = { λ unput fault. fault ≡ Put unput };
+    ghost from_gives = { λ error fault. fault ≡ Encode error };
 
-    fn from(unput: EncodeError) -> Fault {
-        Fault::Put(unput)
+    fn from(error: EncodeError) -> Fault {
+        Fault::Encode(error)
     }
 }

@@ -1,4 +1,5 @@
-// A listing: text that says which halfwords lie at which addresses of a store.
+// A listing: a text that says which halfwords lie at which addresses of a store. `Listing` gives them one by one, and `assemble_into`
+// writes them into a store. Begin with `Listing::next_placed`; specs/Listing.antt says what a listing places.
 #![tactic(auto)]
 
 mod assemble;
@@ -6,7 +7,6 @@ mod entry;
 mod fault;
 mod line;
 mod listing;
-mod next;
 mod number;
 mod placed;
 mod tokens;

@@ -1,6 +1,7 @@
 ghost use Rattle.std.specs.Prelude.{◌≡◌};
 ghost use Rattle.listing.specs.Words.{words, uncommented};
-ghost use Rattle.listing.specs.Line.{instruction, halfwords_line, word_line, shown, content_of, entered, line_rule};
+ghost use Rattle.listing.specs.Line as spec;
+ghost use Rattle.listing.specs.Line.{content_of, instruction, line_rule, shown_content, shown_entry, some_halfwords};
 
 use crate::entry::{Content, Entry};
 use crate::fault::Fault;
@@ -19,12 +20,12 @@ fn instruction_word(book: &Book, name: &[u8], rest: &[u8]) -> Result<u16, Fault>
     let format = Format::try_from(format)?;
     let m = signed(m).ok_or(Fault::Number)?;
     let d = signed(d).ok_or(Fault::Number)?;
-    Ok(book.put_together(name, format, m, d)?)
+    Ok(book.encode(name, format, m, d)?)
 }
 
 // The word that is spelled in hexadecimal digits.
 fn spelled_word(rest: &[u8]) -> Result<u16, Fault>
-    ensures { result ≡ word_line (words rest.now) }
+    ensures { result ≡ spec.spelled_word (words rest.now) }
 {
     let digits = one_word(rest).ok_or(Fault::Words)?;
     hex_word(digits).ok_or(Fault::Number)
@@ -32,7 +33,7 @@ fn spelled_word(rest: &[u8]) -> Result<u16, Fault>
 
 // The words that spell halfwords, one at least.
 fn halfwords(rest: &[u8]) -> Result<Content<'_>, Fault>
-    ensures { shown result ≡ halfwords_line (words rest.now) }
+    ensures { shown_content result ≡ some_halfwords (words rest.now) }
 {
     next_word(rest).ok_or(Fault::Words)?;
     Ok(Content::Halfwords(rest))
@@ -40,7 +41,7 @@ fn halfwords(rest: &[u8]) -> Result<Content<'_>, Fault>
 
 // What follows the address.
 fn content<'a>(book: &Book, kind: &[u8], rest: &'a [u8]) -> Result<Content<'a>, Fault>
-    ensures { shown result ≡ content_of book.now.tables kind.now (words rest.now) }
+    ensures { shown_content result ≡ content_of book.now.tables kind.now (words rest.now) }
 {
     match kind {
         b"halfwords" => halfwords(rest),
@@ -49,9 +50,9 @@ fn content<'a>(book: &Book, kind: &[u8], rest: &'a [u8]) -> Result<Content<'a>, 
     }
 }
 
-// What a line says, if it says anything.
+/// What a line says, if it says anything.
 pub fn read_line<'a>(book: &Book, line: &'a [u8]) -> Result<Option<Entry<'a>>, Fault>
-    ensures { entered result ≡ line_rule book.now.tables (words (uncommented line.now)) }
+    ensures { shown_entry result ≡ line_rule book.now.tables (words (uncommented line.now)) }
 {
     let Some((first, rest)) = next_word(before_comment(line)) else {
         return Ok(None);

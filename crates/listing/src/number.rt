@@ -14,21 +14,21 @@ fn integer(s: &[u8], least: u16) -> Option<i32>
     }
 }
 
-// A number from -65,535 to 65,535, in base ten.
+/// A number from -65,535 to 65,535, in base ten.
 pub fn signed(s: &[u8]) -> Option<i32>
     ensures { result ≡ signed_of s.now }
 {
     integer(s, 65535)
 }
 
-// The halfword of a number from -32,768 to 65,535, in base ten; a negative one in two's complement.
+/// The halfword of a number from -32,768 to 65,535, in base ten; a negative one in two's complement.
 pub fn half(s: &[u8]) -> Option<u16>
     ensures { result ≡ half_of s.now }
 {
     Some(integer(s, 32768)?.rem_euclid(65536) as u16)
 }
 
-// An even number from 0 to 65,535.
+/// An even number from 0 to 65,535.
 pub fn address(s: &[u8]) -> Option<u16>
     ensures { result ≡ address_of s.now }
 {

@@ -1,4 +1,4 @@
-// One halfword at its address; `code` where it is an instruction or a word, to be read under the book.
+/// One halfword at its address; `code` where it is an instruction or a word, to be read under the book.
 #[derive(Clone, Copy, PartialEq, Eq, Debug)]
 pub struct Placed {
     pub address: u16,

@@ -1,6 +1,6 @@
 ghost use Rattle.std.specs.Prelude.{◌≡◌, ◌==◌, not, position, IfSome, ◌<◌, length};
-ghost use Rattle.listing.specs.Numbers.{held};
-ghost use Rattle.listing.specs.Words.{words, parted, uncommented, only, three, triple};
+ghost use Rattle.listing.specs.Words as spec;
+ghost use Rattle.listing.specs.Words.{only_word, triple_bytes, uncommented, word_bytes, words, words_of_pair};
 
 use text::cut;
 
@@ -12,32 +12,32 @@ fn word_start(s: &[u8]) -> Option<usize>
     s.iter().position(|x| *x != b' ')
 }
 
-// The first word, and what follows it.
+/// The first word, and what follows it.
 pub fn next_word(s: &[u8]) -> Option<(&[u8], &[u8])>
-    ensures { parted result ≡ words s.now }
+    ensures { words_of_pair result ≡ words s.now }
 {
     let t = &s[word_start(s)?..];
     Some(cut(t, b' ').unwrap_or((t, &[])))
 }
 
-// What stands before the comment.
+/// What stands before the comment.
 pub fn before_comment(line: &[u8]) -> &[u8]
     ensures { result.now ≡ uncommented line.now }
 {
     cut(line, b'#').map_or(line, |(said, _)| said)
 }
 
-// The only word.
+/// The only word.
 pub fn one_word(s: &[u8]) -> Option<&[u8]>
-    ensures { held result ≡ only (words s.now) }
+    ensures { word_bytes result ≡ only_word (words s.now) }
 {
     let (word, rest) = next_word(s)?;
     next_word(rest).is_none().then_some(word)
 }
 
-// The words, if there are just three.
+/// The words, if there are just three.
 pub fn three_words(s: &[u8]) -> Option<(&[u8], &[u8], &[u8])>
-    ensures { triple result ≡ three (words s.now) }
+    ensures { triple_bytes result ≡ spec.three_words (words s.now) }
 {
     let (first, rest) = next_word(s)?;
     let (second, rest) = next_word(rest)?;

@@ -1,3 +1,4 @@
-pub mod Places
 pub mod Digits
-pub mod Following
+pub mod Hex
+pub mod Parts
+pub mod Reading

@@ -1,4 +1,8 @@
 pub mod Search
-pub mod Next
+pub mod Lines
+pub mod Results
+pub mod Faults
+pub mod LineRule
+pub mod TakeLine
 pub mod Numbers
 pub mod Spelling

@@ -6,12 +6,12 @@ use Rattle.job.proofs.run.run_turns.Goals as goal
 pub returns-then-is_some : goal.returns-then-is_some
 returns-then-is_some g c =
     let h : c.loop-k._k < c.args.job.now.turns.count = omega arith in
-    rw c.from.ensures (stops (reading c.args.book.now.tables) c.args.job.now.rights c.args.job.now.turns.count c.loop-k._k c.args.job.now.turns.budget h c.loop-k.ran.registers c.turn-turned.new.registers (g.S.Store.bytes c.loop-k.store) (g.S.Store.bytes c.turn-turned.new.store) c.turn-turned.result c.turn-turned.ensures.runs c.loop-k.ran.steps (sym c.if-is_some.ensures) ∙ c.loop-k.invariant.0)
+    rw c.from.ensures (stops (reading c.args.book.now.tables) c.args.job.now.rights c.args.job.now.turns.count c.loop-k._k c.args.job.now.turns.budget h c.loop-k.ran.registers c.turn-turned.new.registers (g.S.Store.bytes c.loop-k.store) (g.S.Store.bytes c.turn-turned.new.store) c.turn-turned.result c.turn-turned.ensures.is c.loop-k.ran.steps (sym c.if-is_some.ensures) ∙ c.loop-k.invariant.0)
 
 pub loop-k-preserved : goal.loop-k-preserved
 loop-k-preserved g c =
     let h : c.loop-k._k < c.args.job.now.turns.count = omega arith in (
-      rw c.from.ensures (goes_on (reading c.args.book.now.tables) c.args.job.now.rights c.args.job.now.turns.count c.loop-k._k c.args.job.now.turns.budget h c.loop-k.ran.registers c.turn-turned.new.registers (g.S.Store.bytes c.loop-k.store) (g.S.Store.bytes c.turn-turned.new.store) c.turn-turned.result c.turn-turned.ensures.runs c.loop-k.ran.steps (sym c.if-is_some.ensures) ∙ c.loop-k.invariant.0),
+      rw c.from.ensures (goes_on (reading c.args.book.now.tables) c.args.job.now.rights c.args.job.now.turns.count c.loop-k._k c.args.job.now.turns.budget h c.loop-k.ran.registers c.turn-turned.new.registers (g.S.Store.bytes c.loop-k.store) (g.S.Store.bytes c.turn-turned.new.store) c.turn-turned.result c.turn-turned.ensures.is c.loop-k.ran.steps (sym c.if-is_some.ensures) ∙ c.loop-k.invariant.0),
       omega (arith, c.loop-k.invariant.1),
       c.loop-k.invariant.2,
     )

@@ -1,8 +1,7 @@
-use Rattle.std.proofs.Common.{arith, rules}
-use Rattle.bays.specs.Bays.{bay_at}
-use Rattle.bays.proofs.Lists.{found}
+use Rattle.bays.proofs.Lists.{numbered_at}
 use Rattle.bays.proofs.table.Table.get.Goals as goal
 
 pub returns : goal.returns
-unfolding bay_at
-returns c = let e = found c.args.self.now.bays c.args.number c.args.self.now.eight (omega arith) in search rules
+returns c =
+    let p = c.in_ok-place in
+    numbered_at c.args.self.now.bays p.place c.args.number _ p.ensures.within p.ensures.named p.ensures.is

@@ -1,0 +1,12 @@
+use Rattle.std.proofs.Common.{sym, ◌∙◌}
+use Rattle.bays.specs.Bays.{with_grant_at}
+use Rattle.bays.proofs.Lists.{changed_at, put_nowhere}
+use Rattle.bays.proofs.table.Table.add.Goals as goal
+
+pub returns-in-Some : goal.returns-in-Some
+returns-in-Some c =
+    let p = c.in-Some in
+    changed_at (λ b. with_grant_at b c.args.place c.args.grant) c.args.self.now.bays p.at c.args.number _ _ p.ensures.within p.ensures.named c.add.ensures
+
+pub returns-in_default : goal.returns-in_default
+returns-in_default c = put_nowhere c.args.self.now.bays c.args.number _ c.args.self.now.eight (sym c.place_of.ensures.is ∙ c.in_default.is)
