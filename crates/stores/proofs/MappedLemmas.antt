@@ -56,11 +56,9 @@ place_less : (t : List ℕ) → Small t → length t ≡ 64 → (a : ℕ) → a 
 place_less t small n a la = let s = small (a / 1024) (omega arith) in omega arith
 
 pub mapped_read : (t xs : List ℕ) (a p r : ℕ) → r ≡ get_or xs p 0 → p ≡ place t a → a < 65536 → r ≡ get_or (mapped_bytes t xs) a 0
-unfolding mapped_bytes
 mapped_read t xs a p r e q la = e ∙ ap (λ (n : ℕ). get_or xs n 0) q ∙ sym (get_or-from_fn 65536 (λ at. get_or xs (place t at) 0) a la)
 
 pub mapped_write : (t xs ys : List ℕ) (a p v : ℕ) → is_page_table t ≡ true → length t ≡ 64 → length xs ≡ 65536 → a < 65536 → p ≡ place t a → ys ≡ set xs p v → mapped_bytes t ys ≡ set (mapped_bytes t xs) a v
-unfolding mapped_bytes
 mapped_write t xs ys a p v once n size la q e =
     ap (mapped_bytes t) (e ∙ ap (λ (i : ℕ). set xs i v) q)
     ∙ set-from_fn 65536 (λ at. get_or xs (place t at) 0) (λ at. get_or (set xs (place t a) v) (place t at) 0) a v la
@@ -69,7 +67,6 @@ mapped_write t xs ys a p v once n size la q e =
 
 -- a halfword lies in one page, of the store and of the one below
 pub mapped_read_half : (t xs : List ℕ) (a p : ℕ) (r : List ℕ) → r ≡ get_or xs (p - p % 2) 0 ∷ get_or xs (p - p % 2 + 1) 0 ∷ [] → p ≡ place t a → a < 65536 → r ≡ get_or (mapped_bytes t xs) (a - a % 2) 0 ∷ get_or (mapped_bytes t xs) (a - a % 2 + 1) 0 ∷ []
-unfolding mapped_bytes
 mapped_read_half t xs a p r e q la =
     let first : (a - a % 2) / 1024 ≡ a / 1024 = omega arith in
     let second : (a - a % 2 + 1) / 1024 ≡ a / 1024 = omega arith in

@@ -9,11 +9,10 @@ use Rattle.stores.specs.declared.table_check.TableError.TheVariants.{Page}
 abbrev pub place : List ℕ → ℕ → ℕ
 place table at = slice_index table (at / 1024) * 1024 + at % 1024
 
-unfoldable pub mapped_bytes : List ℕ → List ℕ → List ℕ
+abbrev pub mapped_bytes : List ℕ → List ℕ → List ℕ
 mapped_bytes table below = from_fn 65536 (λ at. slice_index below (place table at))
 
 pub length-mapped_bytes : (table below : List ℕ) → length (mapped_bytes table below) ≡ 65536
-unfolding mapped_bytes
 length-mapped_bytes table below = length-from_fn 65536 (λ at. slice_index below (place table at))
 
 -- a page number is below 64, and none of the others
