@@ -11,9 +11,9 @@ use Rattle.bays.specs.declared.stage.Stage.{Stage}
 use Rattle.bays.specs.declared.stage.Stage.TheVariants as stage
 use Rattle.history.proofs.Basics.{by_test}
 use Rattle.history.specs.Calls.{Act, Own, Shared, call, close, copy, grant, load, look, open_bay, own, refused, seal, set_all, shared, turn}
-use Rattle.history.specs.Hall.{Hall, Outcome, Program, Told, apply, changed, outcome, program_of, settle, settle_own, stage_for, verdict}
-use Rattle.session.proofs.Stages.{closed, others_keep, stage_of}
-use Rattle.session.specs.Serve.{Fits, Made, all_fit, closed_to, fits, fits_from, fitting, serve, served}
+use Rattle.history.specs.Hall.{CallEnd, Hall, OwnEnd, Program, apply, call_end, changed, end_of, program_of, settle, settle_own, stage_for, verdict}
+use Rattle.session.proofs.Stages.{closed, others_keep, served_by, stage_of}
+use Rattle.session.specs.Serve.{Fits, Made, RequestEnd, all_fit, closed_to, fits, fits_from, fitting, serve}
 use Rattle.session.specs.declared.request.Reply.{Reply}
 use Rattle.session.specs.declared.slot.Slot.{Slot}
 use Rattle.session.specs.declared.slot.Slot.TheVariants.{Empty, Preparing, Sealed}
@@ -102,8 +102,8 @@ pub record Keeps (n : ℕ) (H K : Hall) : Type 0 where
 
 length_own : (n : ℕ) (s : Stage) (i : Own) (H : Hall) → length (apply (call n s (own i)) H).hall.bays ≡ length H.bays
 length_own n s i H =
-    let e : Outcome = outcome i H.book (bay_at H.bays n).rights (program_of (bay_at H.bays n)) H.bytes in
-    by_test (λ (t : Told). length t.hall.bays ≡ length H.bays) (at_stage (stage_for i s) (bay_at H.bays n).stage) (settle_own n H e) (record { answer = refused 2; hall = H })
+    let e : OwnEnd = end_of i H.book (bay_at H.bays n).rights (program_of (bay_at H.bays n)) H.bytes in
+    by_test (λ (t : CallEnd). length t.hall.bays ≡ length H.bays) (at_stage (stage_for i s) (bay_at H.bays n).stage) (settle_own n H e) (call_end (refused 2) H)
     (λ t. of_changed e.program)
     (λ t. refl)
   where
@@ -119,12 +119,12 @@ length_kept : (n : ℕ) (s : Stage) (c : Act) (H : Hall) → length (apply (call
 length_kept n s (own i) H = length_own n s i H
 length_kept n s (shared o) H = length_settled n o H (verdict n s o H.bays)
 
-served_keeps : (o : Option Stage) (n : ℕ) (c : Act) (H : Hall) → Keeps n H (served o n c H).hall
+served_keeps : (o : Option Stage) (n : ℕ) (c : Act) (H : Hall) → Keeps n H (served_by o n c H).hall
 served_keeps None n c H = record { count = refl; others = λ j d. refl }
 served_keeps (Some s) n c H = record { count = length_kept n s c H; others = λ j d. others_keep (call n s c) H j d }
 
 pub made_keeps : {E : Type 0} (r : Result Reply E) (n : ℕ) (c : Act) (H K : Hall) → Made r H K (serve n c H) → Keeps n H K
-made_keeps (Ok r) n c H K m = subst (Keeps n H) (sym m.1) (served_keeps (fitting c (bay_at H.bays n).stage) n c H)
+made_keeps (Ok r) n c H K m = subst (Keeps n H) (sym (ap (λ (e : RequestEnd). e.hall) m)) (served_keeps (fitting c (bay_at H.bays n).stage) n c H)
 made_keeps (Err e) n c H K m = subst (Keeps n H) (sym m) (record { count = refl; others = λ j d. refl })
 
 -- a number that no bay has
@@ -139,17 +139,17 @@ outside n h = grind (arith, nat_tests)
 
 unserved : (n : ℕ) (c : Act) (H : Hall) → (n < 1) ⊎ (8 < n) → stage_of H.bays n ≡ None → (serve n c H).hall ≡ H
 unserved n (shared open_bay) H h e = simp (outside n h) refl
-unserved n (shared (grant g)) H h e = ap (λ (o : Option Stage). (served (fitting (shared (grant g)) o) n (shared (grant g)) H).hall) e
-unserved n (shared seal) H h e = ap (λ (o : Option Stage). (served (fitting (shared seal) o) n (shared seal) H).hall) e
-unserved n (shared close) H h e = ap (λ (o : Option Stage). (served (fitting (shared close) o) n (shared close) H).hall) e
-unserved n (own (load at v)) H h e = ap (λ (o : Option Stage). (served (fitting (own (load at v)) o) n (own (load at v)) H).hall) e
-unserved n (own (set_all r)) H h e = ap (λ (o : Option Stage). (served (fitting (own (set_all r)) o) n (own (set_all r)) H).hall) e
-unserved n (own (turn b)) H h e = ap (λ (o : Option Stage). (served (fitting (own (turn b)) o) n (own (turn b)) H).hall) e
-unserved n (own look) H h e = ap (λ (o : Option Stage). (served (fitting (own look) o) n (own look) H).hall) e
-unserved n (own (copy at b)) H h e = ap (λ (o : Option Stage). (served (fitting (own (copy at b)) o) n (own (copy at b)) H).hall) e
+unserved n (shared (grant g)) H h e = ap (λ (o : Option Stage). (served_by (fitting (shared (grant g)) o) n (shared (grant g)) H).hall) e
+unserved n (shared seal) H h e = ap (λ (o : Option Stage). (served_by (fitting (shared seal) o) n (shared seal) H).hall) e
+unserved n (shared close) H h e = ap (λ (o : Option Stage). (served_by (fitting (shared close) o) n (shared close) H).hall) e
+unserved n (own (load at v)) H h e = ap (λ (o : Option Stage). (served_by (fitting (own (load at v)) o) n (own (load at v)) H).hall) e
+unserved n (own (set_all r)) H h e = ap (λ (o : Option Stage). (served_by (fitting (own (set_all r)) o) n (own (set_all r)) H).hall) e
+unserved n (own (turn b)) H h e = ap (λ (o : Option Stage). (served_by (fitting (own (turn b)) o) n (own (turn b)) H).hall) e
+unserved n (own look) H h e = ap (λ (o : Option Stage). (served_by (fitting (own look) o) n (own look) H).hall) e
+unserved n (own (copy at b)) H h e = ap (λ (o : Option Stage). (served_by (fitting (own (copy at b)) o) n (own (copy at b)) H).hall) e
 
 pub unmade : {E : Type 0} (r : Result Reply E) (n : ℕ) (c : Act) (H K : Hall) → (n < 1) ⊎ (8 < n) → stage_of H.bays n ≡ None → Made r H K (serve n c H) → K ≡ H
-unmade (Ok r) n c H K h e m = m.1 ∙ unserved n c H h e
+unmade (Ok r) n c H K h e m = ap (λ (e : RequestEnd). e.hall) m ∙ unserved n c H h e
 unmade (Err x) n c H K h e m = m
 
 pub counted : (l : List Bay) (ss : List Slot) → all_fit l ss ≡ true → (length l ≡ 8) × ((length ss ≡ 8) × (fits_from l 1 ss ≡ true))
@@ -179,7 +179,7 @@ held n H ss h h' e =
 pub let_go : (n : ℕ) (H : Hall) → stage_of (serve n (shared close) H).hall.bays n ≡ None
 let_go n H = by_stage (stage_of H.bays n) refl
   where
-    by_stage : (o : Option Stage) → stage_of H.bays n ≡ o → stage_of (served (fitting (shared close) o) n (shared close) H).hall.bays n ≡ None
+    by_stage : (o : Option Stage) → stage_of H.bays n ≡ o → stage_of (served_by (fitting (shared close) o) n (shared close) H).hall.bays n ≡ None
     by_stage None e = e
     by_stage (Some s) e = closed n s H e
 

@@ -7,7 +7,8 @@ use Rattle.bays.specs.declared.stage.Stage.{Stage}
 use Rattle.history.specs.Calls.{Answer, call}
 use Rattle.history.specs.Hall.{Hall, apply}
 use Rattle.history.specs.History.{after, answers}
-use Rattle.session.specs.Serve.{act_of, fitting, history, noted, replies, said, serve, served, spoken}
+use Rattle.session.proofs.Stages.{served_by}
+use Rattle.session.specs.Serve.{act_of, calls_by, fitting, history, replies, request_end, said, serve, spoken}
 use Rattle.session.specs.declared.request.Reply.{Reply}
 use Rattle.session.specs.declared.request.Request.{Request}
 
@@ -16,18 +17,18 @@ pub spoken_is : (qs : List Request) (H : Hall) → spoken (replies qs H) ≡ ans
 spoken_is [] H = refl
 spoken_is (q ∷ qs) H = by_stage (fitting (act_of q.deed) (bay_at H.bays q.bay).stage) (spoken_is qs)
   where
-    by_stage : (o : Option Stage) → ((K : Hall) → spoken (replies qs K) ≡ answers (history qs K) K) → spoken ((served o q.bay (act_of q.deed) H).reply ∷ replies qs (served o q.bay (act_of q.deed) H).hall) ≡ answers (noted o q.bay (act_of q.deed) (history qs (served o q.bay (act_of q.deed) H).hall)) H
+    by_stage : (o : Option Stage) → ((K : Hall) → spoken (replies qs K) ≡ answers (history qs K) K) → spoken ((served_by o q.bay (act_of q.deed) H).reply ∷ replies qs (served_by o q.bay (act_of q.deed) H).hall) ≡ answers (calls_by o q.bay (act_of q.deed) ++ (history qs (served_by o q.bay (act_of q.deed) H).hall)) H
     by_stage None k = k H
     by_stage (Some s) k = ap (λ (l : List Answer). (apply (call q.bay s (act_of q.deed)) H).answer ∷ l) (k (apply (call q.bay s (act_of q.deed)) H).hall)
 
 -- what was said so far, and what is still to be said
 pub said_on : (qs : List Request) (i : ℕ) (q : Request) (H K : Hall) (vs : List Reply) (r : Reply) → i < length qs → get_or qs i q ≡ q
-    → (said r ≡ (serve q.bay (act_of q.deed) H).reply) × (K ≡ (serve q.bay (act_of q.deed) H).hall)
+    → request_end (said r) K ≡ serve q.bay (act_of q.deed) H
     → map said (vs ++ r ∷ []) ++ replies (drop (i + 1) qs) K ≡ map said vs ++ replies (drop i qs) H
 said_on qs i q H K vs r h g m =
     ap (λ (l : List (Option Answer)). l ++ replies (drop (i + 1) qs) K) (map-append said vs (r ∷ []))
     ∙ append_assoc (map said vs) (said r ∷ []) (replies (drop (i + 1) qs) K)
-    ∙ (λ j. map said vs ++ (m.0 j ∷ replies (drop (i + 1) qs) (m.1 j)))
+    ∙ (λ j. map said vs ++ ((m j).reply ∷ replies (drop (i + 1) qs) (m j).hall))
     ∙ ap (λ (p : Request). map said vs ++ replies (p ∷ drop (i + 1) qs) H) (sym g)
     ∙ sym (ap (λ (l : List (Option Answer)). map said vs ++ l) (at_drop_more (λ (l : List Request). replies l H) qs i q h))
 
@@ -44,11 +45,11 @@ pub after_is : (qs : List Request) (H : Hall) → hall_after qs H ≡ after (his
 after_is [] H = refl
 after_is (q ∷ qs) H = by_stage (fitting (act_of q.deed) (bay_at H.bays q.bay).stage) (after_is qs)
   where
-    by_stage : (o : Option Stage) → ((K : Hall) → hall_after qs K ≡ after (history qs K) K) → hall_after qs (served o q.bay (act_of q.deed) H).hall ≡ after (noted o q.bay (act_of q.deed) (history qs (served o q.bay (act_of q.deed) H).hall)) H
+    by_stage : (o : Option Stage) → ((K : Hall) → hall_after qs K ≡ after (history qs K) K) → hall_after qs (served_by o q.bay (act_of q.deed) H).hall ≡ after (calls_by o q.bay (act_of q.deed) ++ (history qs (served_by o q.bay (act_of q.deed) H).hall)) H
     by_stage None k = k H
     by_stage (Some s) k = k (apply (call q.bay s (act_of q.deed)) H).hall
 
--- one request is served, and the rest is still to be
+-- one request is served_by, and the rest is still to be
 pub on_after : (qs : List Request) (i : ℕ) (q : Request) (H K : Hall) → i < length qs → get_or qs i q ≡ q → K ≡ (serve q.bay (act_of q.deed) H).hall → hall_after (drop (i + 1) qs) K ≡ hall_after (drop i qs) H
 on_after qs i q H K h g m =
     ap (hall_after (drop (i + 1) qs)) m

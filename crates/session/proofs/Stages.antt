@@ -1,8 +1,8 @@
 -- What stage a bay has after a call.
-use Rattle.std.proofs.Common.{◌≡◌, ℕ, zero, suc, ◌≢◌, ◌&&◌, T, leb, List, [], ◌∷◌, length, get_or, set, Some, None, Option, sym, refl, ap, ◌∙◌, arith, leb→le}
+use Rattle.std.proofs.Common.{◌≡◌, ℕ, zero, suc, ◌≢◌, ◌&&◌, ◌-◌, Bool, true, false, T, cond, is_some, leb, List, [], ◌∷◌, length, get_or, set, Some, None, Option, sym, refl, ap, ◌∙◌, arith, leb→le}
 use Rattle.std.proofs.lemmas.List.{get_or-set_same, length-set}
 use Rattle.access.specs.declared.rights.Grant.{Grant}
-use Rattle.bays.specs.Bays.{bay_at, free, put_bay}
+use Rattle.bays.specs.Bays.{bay_at, free, opened, place_of, put_bay, with_stage}
 use Rattle.bays.specs.Stages.{at_stage, is_free}
 use Rattle.bays.specs.declared.bay.Bay.{Bay}
 use Rattle.bays.specs.declared.refusal.Refusal.{Refusal}
@@ -11,7 +11,12 @@ use Rattle.bays.specs.declared.stage.Stage.TheVariants as stage
 use Rattle.history.proofs.Basics.{and_right, by_test}
 use Rattle.history.proofs.Entries.{Entry, changed_entries, get_put_other, same_entry}
 use Rattle.history.specs.Calls.{Act, Call, Own, Shared, call, close, done, grant, open_bay, own, refused, seal, shared}
-use Rattle.history.specs.Hall.{Hall, Outcome, Told, apply, bay_after, outcome, program_of, settle, settle_own, stage_for, verdict, with_stage}
+use Rattle.history.specs.Hall.{CallEnd, Hall, OwnEnd, apply, bay_after, call_end, end_of, program_of, settle, settle_own, stage_for, verdict}
+use Rattle.session.specs.Serve.{RequestEnd, calls_by, served}
+
+-- a request by the stage of the handle that it needs
+abbrev pub served_by : Option Stage → ℕ → Act → Hall → RequestEnd
+served_by o n c H = served (calls_by o n c) H
 
 abbrev pub stage_of : List Bay → ℕ → Option Stage
 stage_of l n = (bay_at l n).stage
@@ -30,8 +35,8 @@ put_there x l (suc k) s e = there x l k s e
 -- a load, set, turn, look or copy leaves every bay at its stage
 pub own_keeps : (n : ℕ) (s : Stage) (i : Own) (H : Hall) (j : ℕ) → stage_of (apply (call n s (own i)) H).hall.bays j ≡ stage_of H.bays j
 own_keeps n s i H j =
-    let e : Outcome = outcome i H.book (bay_at H.bays n).rights (program_of (bay_at H.bays n)) H.bytes in
-    by_test (λ (t : Told). stage_of t.hall.bays j ≡ stage_of H.bays j) (at_stage (stage_for i s) (bay_at H.bays n).stage) (settle_own n H e) (record { answer = refused 2; hall = H })
+    let e : OwnEnd = end_of i H.book (bay_at H.bays n).rights (program_of (bay_at H.bays n)) H.bytes in
+    by_test (λ (t : CallEnd). stage_of t.hall.bays j ≡ stage_of H.bays j) (at_stage (stage_for i s) (bay_at H.bays n).stage) (settle_own n H e) (call_end (refused 2) H)
     (λ t. ap (λ (x : Entry). x.stage) (same_entry _ H.bays (changed_entries H.bays n e.program) j))
     (λ t. refl)
 
@@ -65,20 +70,24 @@ others_keep c H j d = by_act c.act
     by_act (own i) = own_keeps c.bay c.held i H j
     by_act (shared o) = by_refusal o (verdict c.bay c.held o H.bays)
 
+in_range : (b : Bool) (k : ℕ) → T (is_some (cond b (Some k) None)) → T b
+in_range true k t = tt
+in_range false k t = absurd t
+
 put_in_range : (x : Bay) (l : List Bay) (n : ℕ) → T (leb 1 n && leb n 8) → length (put_bay l n x) ≡ 8 → bay_at (put_bay l n x) n ≡ x
 unfolding bay_at put_bay
 put_in_range x l zero t e = absurd t
 put_in_range x l (suc k) t e = get_or-set_same l k x free (let z = length-set l k x in let w = leb→le (suc k) 8 (and_right (leb 1 (suc k)) (leb (suc k) 8) t) in omega arith)
 
-pub opened : (n : ℕ) (H K : Hall) → K ≡ (apply (call n stage.Preparing (shared open_bay)) H).hall → length K.bays ≡ 8 → done ≡ (apply (call n stage.Preparing (shared open_bay)) H).answer → stage_of K.bays n ≡ Some stage.Preparing
-opened n H K k e a = ap (λ (G : Hall). stage_of G.bays n) k ∙ by_range (ap (λ (G : Hall). length G.bays) (sym k) ∙ e) a
+pub opens : (n : ℕ) (H K : Hall) → K ≡ (apply (call n stage.Preparing (shared open_bay)) H).hall → length K.bays ≡ 8 → done ≡ (apply (call n stage.Preparing (shared open_bay)) H).answer → stage_of K.bays n ≡ Some stage.Preparing
+opens n H K k e a = ap (λ (G : Hall). stage_of G.bays n) k ∙ by_range (ap (λ (G : Hall). length G.bays) (sym k) ∙ e) a
   where
     by_range : length (apply (call n stage.Preparing (shared open_bay)) H).hall.bays ≡ 8 → done ≡ (apply (call n stage.Preparing (shared open_bay)) H).answer → stage_of (apply (call n stage.Preparing (shared open_bay)) H).hall.bays n ≡ Some stage.Preparing
     by_range =
-        by_test (λ (r : Option Refusal). length (settle r n open_bay H).hall.bays ≡ 8 → done ≡ (settle r n open_bay H).answer → stage_of (settle r n open_bay H).hall.bays n ≡ Some stage.Preparing) (leb 1 n && leb n 8) _ _
+        by_test (λ (r : Option Refusal). length (settle r n open_bay H).hall.bays ≡ 8 → done ≡ (settle r n open_bay H).answer → stage_of (settle r n open_bay H).hall.bays n ≡ Some stage.Preparing) (is_some (place_of n)) _ _
         (λ t.
         by_test (λ (r : Option Refusal). length (settle r n open_bay H).hall.bays ≡ 8 → done ≡ (settle r n open_bay H).answer → stage_of (settle r n open_bay H).hall.bays n ≡ Some stage.Preparing) (is_free (bay_at H.bays n).stage) _ _
-        (λ u e a. ap (λ (x : Bay). x.stage) (put_in_range (with_stage free stage.Preparing) H.bays n t e))
+        (λ u e a. ap (λ (x : Bay). x.stage) (put_in_range opened H.bays n (in_range (leb 1 n && leb n 8) (n - 1) t) e))
         (λ u e a. cc))
         (λ t e a. cc)
 

@@ -1,5 +1,5 @@
 -- What a list of requests is answered by one who keeps the handles.
-use Rattle.std.specs.Prelude.{◌≡◌, ℕ, zero, suc, Bool, true, ◌&&◌, List, [], ◌∷◌, length, Some, None, Ok, Err, vec_items, Option, Result, ◌==◌}
+use Rattle.std.specs.Prelude.{◌≡◌, ℕ, zero, suc, Bool, true, ◌&&◌, List, [], ◌∷◌, ◌++◌, length, Some, None, Ok, Err, vec_items, Option, Result, ◌==◌}
 use Rattle.bays.specs.Bays.{bay_at}
 use Rattle.bays.specs.Refusals.{number}
 use Rattle.bays.specs.Stages.{at_stage, is_free}
@@ -9,8 +9,8 @@ use Rattle.bays.specs.declared.stage.Stage.{Stage}
 use Rattle.bays.specs.declared.stage.Stage.TheVariants as stage
 use Rattle.hall.specs.declared.shown.Shown.{Shown as Look}
 use Rattle.history.specs.Calls.{Act, Answer, Call, answered, call, close, copied, copy, done, grant, load, look, open_bay, own, refused, seal, set_all, shared, shown, stop_told, turn, turned}
-use Rattle.history.specs.Hall.{Hall, Told, apply}
-use Rattle.history.specs.History.{after}
+use Rattle.history.specs.Hall.{Hall}
+use Rattle.history.specs.History.{after, answers}
 use Rattle.session.specs.declared.request.Deed.{Deed}
 use Rattle.session.specs.declared.request.Deed.TheVariants.{Open, Grant, Seal, Close, Set, Turn, Look as LookAt, Load, Copy}
 use Rattle.session.specs.declared.request.Reply.{Reply}
@@ -68,28 +68,37 @@ fitting (own (turn n)) o = if_sealed o
 fitting (own look) o = o
 fitting (own (copy at n)) o = o
 
-pub record Served : Type 0 where
+-- the calls that are made: none without such a handle
+abbrev pub calls_by : Option Stage → ℕ → Act → List Call
+calls_by None n c = []
+calls_by (Some s) n c = call n s c ∷ []
+
+abbrev pub calls_of : ℕ → Act → Hall → List Call
+calls_of n c H = calls_by (fitting c (bay_at H.bays n).stage) n c
+
+-- what is said of the answers to them
+abbrev pub reply_by : List Answer → Option Answer
+reply_by [] = None
+reply_by (a ∷ l) = Some a
+
+-- what is said to a request, and the hall after it
+pub record RequestEnd : Type 0 where
   pub reply : Option Answer
   pub hall : Hall
 
-abbrev pub made : Told → Served
-made t = record { reply = Some t.answer; hall = t.hall }
+abbrev pub request_end : Option Answer → Hall → RequestEnd
+request_end o H = record { reply = o; hall = H }
 
-abbrev pub served : Option Stage → ℕ → Act → Hall → Served
-served None n c H = record { reply = None; hall = H }
-served (Some s) n c H = made (apply (call n s c) H)
+abbrev pub served : List Call → Hall → RequestEnd
+served h H = request_end (reply_by (answers h H)) (after h H)
 
-abbrev pub serve : ℕ → Act → Hall → Served
-serve n c H = served (fitting c (bay_at H.bays n).stage) n c H
+abbrev pub serve : ℕ → Act → Hall → RequestEnd
+serve n c H = served (calls_of n c H) H
 
 -- the calls that a list of requests makes, and what is said to each request
-abbrev pub noted : Option Stage → ℕ → Act → List Call → List Call
-noted None n c h = h
-noted (Some s) n c h = call n s c ∷ h
-
 abbrev pub history : List Request → Hall → List Call
 history [] H = []
-history (q ∷ qs) H = noted (fitting (act_of q.deed) (bay_at H.bays q.bay).stage) q.bay (act_of q.deed) (history qs (serve q.bay (act_of q.deed) H).hall)
+history (q ∷ qs) H = calls_of q.bay (act_of q.deed) H ++ history qs (serve q.bay (act_of q.deed) H).hall
 
 abbrev pub replies : List Request → Hall → List (Option Answer)
 replies [] H = []
@@ -125,8 +134,8 @@ abbrev pub all_fit : List Bay → List Slot → Bool
 all_fit l ss = (length l == 8 && length ss == 8) && fits_from l 1 ss
 
 -- a request that was served, or not even made for want of memory
-abbrev pub Made : {E : Type 0} → Result Reply E → Hall → Hall → Served → Type 0
-Made (Ok r) H K s = (said r ≡ s.reply) × (K ≡ s.hall)
+abbrev pub Made : {E : Type 0} → Result Reply E → Hall → Hall → RequestEnd → Type 0
+Made (Ok r) H K s = request_end (said r) K ≡ s
 Made (Err e) H K s = K ≡ H
 
 -- the hall after the handles of the bays 1, 2, .. are given to close

@@ -1,7 +1,7 @@
 ghost use Rattle.history.specs.Calls;
 ghost use Rattle.history.specs.Calls.{call, close, copy, load, look, open_bay, own, seal, set_all, shared, turn};
 ghost use Rattle.history.specs.Hall.{apply};
-ghost use Rattle.session.specs.Serve.{Fits, Made, act_of, said, said_done, said_shown, serve, served};
+ghost use Rattle.session.specs.Serve.{Fits, Made, act_of, calls_by, request_end, said, said_done, said_shown, serve, served};
 ghost use Rattle.std.specs.Prelude.{◌≡◌, Some};
 
 use crate::request::{Deed, Reply};
@@ -33,8 +33,7 @@ fn shown_or_refused(res: Result<Shown, Refusal>) -> Reply
 
 fn open_in<S: Store>(hall: &mut Hall<S>, number: u8, slot: Slot) -> (Slot, Reply)
     requires { Fits hall.old.bays number slot }
-    ensures reply { said result.1 ≡ (serve number (shared open_bay) hall.old).reply }
-    ensures after { hall.new ≡ (serve number (shared open_bay) hall.old).hall }
+    ensures is { request_end (said result.1) hall.new ≡ serve number (shared open_bay) hall.old }
     ensures fits { Fits hall.new.bays number result.0 }
 {
     match hall.open(number) {
@@ -48,8 +47,7 @@ fn open_in<S: Store>(hall: &mut Hall<S>, number: u8, slot: Slot) -> (Slot, Reply
 
 fn grant_in<S: Store>(hall: &mut Hall<S>, number: u8, slot: Slot, grant: Grant) -> (Slot, Reply)
     requires { Fits hall.old.bays number slot }
-    ensures reply { said result.1 ≡ (serve number (shared (Calls.grant grant)) hall.old).reply }
-    ensures after { hall.new ≡ (serve number (shared (Calls.grant grant)) hall.old).hall }
+    ensures is { request_end (said result.1) hall.new ≡ serve number (shared (Calls.grant grant)) hall.old }
     ensures fits { Fits hall.new.bays number result.0 }
 {
     match slot {
@@ -63,8 +61,7 @@ fn grant_in<S: Store>(hall: &mut Hall<S>, number: u8, slot: Slot, grant: Grant) 
 
 fn seal_in<S: Store>(hall: &mut Hall<S>, number: u8, slot: Slot) -> (Slot, Reply)
     requires { Fits hall.old.bays number slot }
-    ensures reply { said result.1 ≡ (serve number (shared seal) hall.old).reply }
-    ensures after { hall.new ≡ (serve number (shared seal) hall.old).hall }
+    ensures is { request_end (said result.1) hall.new ≡ serve number (shared seal) hall.old }
     ensures fits { Fits hall.new.bays number result.0 }
 {
     match slot {
@@ -78,8 +75,7 @@ fn seal_in<S: Store>(hall: &mut Hall<S>, number: u8, slot: Slot) -> (Slot, Reply
 
 pub(crate) fn close_in<S: Store>(hall: &mut Hall<S>, number: u8, slot: Slot) -> (Slot, Reply)
     requires { Fits hall.old.bays number slot }
-    ensures reply { said result.1 ≡ (serve number (shared close) hall.old).reply }
-    ensures after { hall.new ≡ (serve number (shared close) hall.old).hall }
+    ensures is { request_end (said result.1) hall.new ≡ serve number (shared close) hall.old }
     ensures fits { Fits hall.new.bays number result.0 }
 {
     match slot {
@@ -103,8 +99,7 @@ fn load_in<S: Store>(
     bytes: &[u8],
 ) -> (Slot, Reply)
     requires { Fits hall.old.bays number slot }
-    ensures reply { said result.1 ≡ (serve number (own (load address bytes.now)) hall.old).reply }
-    ensures after { hall.new ≡ (serve number (own (load address bytes.now)) hall.old).hall }
+    ensures is { request_end (said result.1) hall.new ≡ serve number (own (load address bytes.now)) hall.old }
     ensures fits { Fits hall.new.bays number result.0 }
 {
     match slot {
@@ -127,8 +122,7 @@ fn set_in<S: Store>(
     registers: Registers,
 ) -> (Slot, Reply)
     requires { Fits hall.old.bays number slot }
-    ensures reply { said result.1 ≡ (serve number (own (set_all registers)) hall.old).reply }
-    ensures after { hall.new ≡ (serve number (own (set_all registers)) hall.old).hall }
+    ensures is { request_end (said result.1) hall.new ≡ serve number (own (set_all registers)) hall.old }
     ensures fits { Fits hall.new.bays number result.0 }
 {
     match slot {
@@ -146,8 +140,7 @@ fn set_in<S: Store>(
 
 fn turn_in<S: Store>(hall: &mut Hall<S>, number: u8, slot: Slot, budget: u16) -> (Slot, Reply)
     requires { Fits hall.old.bays number slot }
-    ensures reply { said result.1 ≡ (serve number (own (turn budget)) hall.old).reply }
-    ensures after { hall.new ≡ (serve number (own (turn budget)) hall.old).hall }
+    ensures is { request_end (said result.1) hall.new ≡ serve number (own (turn budget)) hall.old }
     ensures fits { Fits hall.new.bays number result.0 }
 {
     match slot {
@@ -164,8 +157,7 @@ fn turn_in<S: Store>(hall: &mut Hall<S>, number: u8, slot: Slot, budget: u16) ->
 
 fn look_in<S: Store>(hall: &mut Hall<S>, number: u8, slot: Slot) -> (Slot, Reply)
     requires { Fits hall.old.bays number slot }
-    ensures reply { said result.1 ≡ (serve number (own look) hall.old).reply }
-    ensures after { hall.new ≡ (serve number (own look) hall.old).hall }
+    ensures is { request_end (said result.1) hall.new ≡ serve number (own look) hall.old }
     ensures fits { Fits hall.new.bays number result.0 }
 {
     match slot {
@@ -192,7 +184,7 @@ fn copy_with<S: Store, K: AtStage>(
     address: u16,
     length: usize,
 ) -> Result<Reply, AllocError>
-    ensures made { Made result hall.now hall.now (served (Some K.STAGE) handle.now.bay (own (copy address length)) hall.now) }
+    ensures made { Made result hall.now hall.now (served (calls_by (Some K.STAGE) handle.now.bay (own (copy address length))) hall.now) }
 {
     let mut buffer = vec![in alloc; 0u8; length.min(TOO_MANY)]?;
     match hall.copy(handle, address, &mut buffer) {

@@ -8,6 +8,6 @@ mod request;
 mod session;
 mod slot;
 
-pub use driving::{drive, drive_lent, drive_mapped};
+pub use driving::{drive, drive_lent};
 pub use request::{Deed, Reply, Request};
 pub use session::Session;

@@ -41,7 +41,7 @@ impl<S: Store + Drop> Drop for Session<S> {
 
 impl<S: Store + Drop> Session<S> {
     pub fn new(store: S, book: Book) -> Session<S>
-        ensures { result ≡ over (S.Store.footing store) (new book (S.Store.bytes store)) }
+        ensures { result ≡ over (S.Store.footing store) (new book.tables (S.Store.bytes store)) }
     {
         Session {
             hall: Hall::new(store, book),

@@ -5,15 +5,15 @@ use Rattle.session.specs.Serve.{driven, history, replies}
 use Rattle.session.proofs.driving.drive_lent.Goals as goal
 
 pub returns-clause-replies : goal.returns-clause-replies
-returns-clause-replies g c = c.in_ok-lent.ensures.replies ∙ ap (λ s. replies c.args.requests.now (new c.args.book (g.S.Store.bytes s.now))) c.new.ensures
+returns-clause-replies g c = c.in_ok-lent.ensures.replies ∙ ap (λ s. replies c.args.requests.now (new c.args.book.tables (g.S.Store.bytes s.now))) c.new.ensures
 
 pub returns-clause-answers : goal.returns-clause-answers
 returns-clause-answers g c =
-    c.in_ok-lent.ensures.answers ∙ ap (λ s. answers (history c.args.requests.now (new c.args.book (g.S.Store.bytes s.now))) (new c.args.book (g.S.Store.bytes s.now))) c.new.ensures
+    c.in_ok-lent.ensures.answers ∙ ap (λ s. answers (history c.args.requests.now (new c.args.book.tables (g.S.Store.bytes s.now))) (new c.args.book.tables (g.S.Store.bytes s.now))) c.new.ensures
 
 pub returns-clause-bytes : goal.returns-clause-bytes
 returns-clause-bytes g c =
-    let b = c.in_ok-lent.ensures.bytes ∙ ap (λ s. (driven c.args.requests.now (new c.args.book (g.S.Store.bytes s.now))).bytes) c.new.ensures in
+    let b = c.in_ok-lent.ensures.bytes ∙ ap (λ s. (driven c.args.requests.now (new c.args.book.tables (g.S.Store.bytes s.now))).bytes) c.new.ensures in
     search rules
 
 pub returns-clause-footing : goal.returns-clause-footing

@@ -2,7 +2,7 @@ use Rattle.std.proofs.Common.{◌+◌, ◌++◌, ℕ, List, ap, drop, subst, sym
 use Rattle.std.specs.Prelude.{map}
 use Rattle.history.specs.Hall.{Hall}
 use Rattle.session.proofs.Replies.{after_is, all_after, on_after, said_all, said_on, spoken_is}
-use Rattle.session.specs.Serve.{Made, act_of, replies, said, serve, spoken}
+use Rattle.session.specs.Serve.{Made, RequestEnd, act_of, replies, said, serve, spoken}
 use Rattle.session.specs.declared.request.Reply.{Reply}
 use Rattle.session.specs.declared.request.Request.{Request}
 use Rattle.session.proofs.session.Session.serve_all.Goals as goal
@@ -18,7 +18,7 @@ loop-request-preserved g c =
       ap (λ (l : List Reply). map said l ++ replies (drop (i + 1) qs) K) c.in_ok-push.ensures.items
           ∙ said_on qs i q H K c.loop-request.replies.items c.in_ok-serve.field-0 c.loop-request-test.true (sym c.request-item.is) m
           ∙ c.loop-request.invariant.0,
-      on_after qs i q H K c.loop-request-test.true (sym c.request-item.is) m.1 ∙ c.loop-request.invariant.1,
+      on_after qs i q H K c.loop-request-test.true (sym c.request-item.is) (ap (λ (e : RequestEnd). e.hall) m) ∙ c.loop-request.invariant.1,
     )
 
 pub returns-clause-replies : goal.returns-clause-replies
