@@ -3,9 +3,9 @@ use crate::script::read_script;
 use crate::table::read_table;
 use book::Book;
 use cli::{Failure, read_file, read_input, words, zeroed};
-use session::{Reply, Request, drive, drive_mapped};
+use session::{Reply, Request, drive};
 use store::{Store, check_size};
-use stores::{Image, check_table};
+use stores::{Image, Mapped, check_table};
 
 fn print_replies(rt: &HostRuntime, replies: &[Reply]) -> Result<(), Failure> {
     for reply in replies {
@@ -17,7 +17,7 @@ fn print_replies(rt: &HostRuntime, replies: &[Reply]) -> Result<(), Failure> {
 // Over a store, by the pages of the table if there is one; a table that is refused ends all, with its number.
 fn answer_over<S: Store + Drop>(
     rt: &HostRuntime,
-    mut store: S,
+    store: S,
     table: Option<Vec<u8>>,
     book: Book,
     requests: &[Request],
@@ -28,10 +28,11 @@ fn answer_over<S: Store + Drop>(
     };
     match read_table(&text) {
         Ok(table) => match check_table(&table) {
-            Ok(()) => print_replies(
-                rt,
-                &drive_mapped(rt.alloc(), &mut store, table, book, requests)?,
-            ),
+            Ok(()) => {
+                let store = Mapped::new(store, table);
+                let (_store, replies) = drive(rt.alloc(), store, book, requests)?;
+                print_replies(rt, &replies)
+            }
             Err(unmapped) => Ok(println!(rt; "refused {}", unmapped.number())?),
         },
         Err(unmapped) => Ok(println!(rt; "refused {}", unmapped.number())?),

@@ -12,7 +12,7 @@ use store::Store;
 use turns::Turned;
 
 // Gives a handle back to the hall that it came from: a close is not refused where the bay is at the handle's stage.
-pub fn leave<S: Store, K: AtStage>(hall: &mut Hall<S>, handle: Handle<K>)
+fn leave<S: Store, K: AtStage>(hall: &mut Hall<S>, handle: Handle<K>)
     requires { (bay_at hall.old.bays handle.bay).stage ≡ Some K.STAGE }
     ensures { hall.new ≡ (apply (call handle.bay K.STAGE (shared close)) hall.old).hall }
 {
