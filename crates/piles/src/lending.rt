@@ -28,9 +28,7 @@ pub fn drive_memory(
 ) -> Result<Vec<Reply>, LendError>
     ensures refused { (result ≡ Err (Refused Size)) ↔ (length memory.old ≢ 65536) }
     ensures kept { length memory.old ≢ 65536 → memory.new ≡ memory.old }
-    ensures driven {
-        IfOk result (λ v. ending v.items memory.new ≡ ending_of requests.now book memory.old)
-    }
+    ensures driven { IfOk result (λ v. ending v.items memory.new ≡ ending_of requests.now book memory.old) }
 {
     if let Err(refused) = check_size(memory) {
         return Err(LendError::Size(refused));
@@ -52,10 +50,8 @@ pub fn drive_image(
 ) -> Result<([bool; 64], Vec<Reply>), LendError>
     ensures refused { (result ≡ Err (Refused Size)) ↔ ¬ AreFull image.now work.old }
     ensures kept { ¬ AreFull image.now work.old → work.new ≡ work.old }
-    ensures driven {
-        IfOk result (λ r. ending r.1.items (shown image.now work.new r.0)
-        ≡ ending_of requests.now book image.now)
-    }
+    ensures driven { IfOk result (λ r. ending r.1.items (shown image.now work.new r.0)
+        ≡ ending_of requests.now book image.now) }
 {
     if let Err(refused) = check_size(image) {
         return Err(LendError::Size(refused));

@@ -29,10 +29,8 @@ fn drive_pages<S: Store>(
     requests: &[Request],
 ) -> Result<Vec<Reply>, AllocError>
     requires { is_page_table table ≡ true }
-    ensures driven {
-        IfOk result (λ v. ending v.items (mapped_bytes table (S.Store.bytes below.new))
-        ≡ ending_of requests.now book (mapped_bytes table (S.Store.bytes below.old)))
-    }
+    ensures driven { IfOk result (λ v. ending v.items (mapped_bytes table (S.Store.bytes below.new))
+        ≡ ending_of requests.now book (mapped_bytes table (S.Store.bytes below.old))) }
     ensures footing { OnOk result (S.Store.footing below.new ≡ S.Store.footing below.old) }
 {
     let mut store = Mapped::new(Lending::new(below), table);
@@ -51,10 +49,8 @@ pub fn drive_mapped<S: Store>(
 ) -> Result<Vec<Reply>, PagesError>
     ensures refused { (result ≡ Err (Table Page)) ↔ (is_page_table table ≡ false) }
     ensures kept { is_page_table table ≡ false → below.new ≡ below.old }
-    ensures driven {
-        IfOk result (λ v. ending v.items (mapped_bytes table (S.Store.bytes below.new))
-        ≡ ending_of requests.now book (mapped_bytes table (S.Store.bytes below.old)))
-    }
+    ensures driven { IfOk result (λ v. ending v.items (mapped_bytes table (S.Store.bytes below.new))
+        ≡ ending_of requests.now book (mapped_bytes table (S.Store.bytes below.old))) }
     ensures footing { OnOk result (S.Store.footing below.new ≡ S.Store.footing below.old) }
 {
     if let Err(refused) = check_table(&table) {

@@ -90,7 +90,8 @@ fn a_table_that_is_none(rt: HostRuntime) -> Result<(), Fail> {
     let mut table = identity();
     table[63] = 64;
     for table in [table, [0; 64]] {
-        let Err(refused) = drive_mapped(rt.alloc(), &mut below, table, Book::new(), &requests) else {
+        let Err(refused) = drive_mapped(rt.alloc(), &mut below, table, Book::new(), &requests)
+        else {
             panic!(rt; "no table");
         };
         assert_eq!(rt; refused, PagesError::Table(TableError::Page));
