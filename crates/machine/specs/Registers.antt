@@ -71,8 +71,11 @@ divided r None = raised r true
 divided r (Some q) = loaded_x r q
 
 -- the next instruction
+abbrev pub onward : Registers → ℕ → Registers
+onward r bytes = with_s r (plus r.s bytes)
+
 abbrev pub advanced : Registers → Registers
-advanced r = with_s r (plus r.s 2)
+advanced r = onward r 2
 
 -- s into z first
 abbrev pub linked : Registers → Registers

@@ -2,7 +2,7 @@ ghost use Rattle.access.specs.Access.{held, sight_of};
 ghost use Rattle.machine.specs.Address;
 ghost use Rattle.machine.specs.Address.{base, far_base, formed, wrapped};
 ghost use Rattle.machine.specs.Plan.{obey, placed};
-ghost use Rattle.machine.specs.Registers.{advanced};
+ghost use Rattle.machine.specs.Registers.{advanced, onward};
 ghost use Rattle.std.specs.Prelude.{◌≡◌};
 
 use crate::mode::Mode;
@@ -40,35 +40,36 @@ pub(crate) fn address(terms: Terms) -> Result<u16, Cause>
 }
 
 #[inline(always)]
-fn base_of(registers: &Registers, m: u8) -> u16
-    ensures { result ≡ base (advanced registers.now) m }
+fn base_of(registers: &Registers, ahead: u16, m: u8) -> u16
+    ensures { result ≡ base (onward registers.now ahead) m }
 {
     match m {
         0 => registers.l,
-        1 => registers.s.wrapping_add(2),
+        1 => registers.s.wrapping_add(ahead),
         2 => registers.y,
         _ => registers.z,
     }
 }
 
 #[inline(always)]
-fn far_base_of(registers: &Registers, m: u8) -> u16
-    ensures { result ≡ far_base (advanced registers.now) m }
+fn far_base_of(registers: &Registers, ahead: u16, m: u8) -> u16
+    ensures { result ≡ far_base (onward registers.now ahead) m }
 {
-    if m == 1 { 0 } else { base_of(registers, m) }
+    if m == 1 { 0 } else { base_of(registers, ahead, m) }
 }
 
-/// The address of an item by the formats without a pointer; none by the others. S is taken at the next instruction.
+/// The address of an item by the formats without a pointer; none by the others. S is taken so many bytes ahead: 2 where it is at the
+/// instruction, and 0 where it is at the next one already.
 #[inline(always)]
-pub fn direct(mode: Mode, item: Item, registers: &Registers) -> Option<Terms>
-    ensures { result ≡ Address.direct mode item (advanced registers.now) }
+pub fn direct(mode: Mode, item: Item, ahead: u16, registers: &Registers) -> Option<Terms>
+    ensures { result ≡ Address.direct mode item (onward registers.now ahead) }
 {
     let offset = u32::from(mode.d) * u32::from(item.size());
     match mode.format {
         Format::A1 => Some(Terms::plain(offset)),
-        Format::A2 => Some(Terms::plain(u32::from(base_of(registers, mode.m)) + offset)),
+        Format::A2 => Some(Terms::plain(u32::from(base_of(registers, ahead, mode.m)) + offset)),
         Format::A5 => Some(Terms::indexed(
-            u32::from(far_base_of(registers, mode.m)) + offset,
+            u32::from(far_base_of(registers, ahead, mode.m)) + offset,
             registers.x,
             item.size(),
         )),
@@ -83,7 +84,7 @@ fn pointer(mode: Mode, registers: &Registers) -> Option<Terms>
     let offset = u32::from(mode.d) * 2;
     match mode.format {
         Format::A3 => Some(Terms::plain(offset)),
-        Format::A4 => Some(Terms::plain(u32::from(base_of(registers, mode.m)) + offset)),
+        Format::A4 => Some(Terms::plain(u32::from(base_of(registers, 2, mode.m)) + offset)),
         _ => None,
     }
 }
@@ -107,7 +108,7 @@ pub(crate) fn form<S: Store>(
 ) -> Result<u16, Cause>
     ensures { result ≡ obey (sight_of view.now) (formed mode item (advanced registers.now)) }
 {
-    if let Some(terms) = direct(mode, item, registers) {
+    if let Some(terms) = direct(mode, item, 2, registers) {
         return address(terms);
     }
     let terms = pointer(mode, registers).ok_or(Cause::Undefined)?;
