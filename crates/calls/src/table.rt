@@ -1,4 +1,4 @@
-use stores::{TableError, check_table};
+use stores::TableError;
 use text::{Lines, decimal};
 
 // A page number, on the next line.

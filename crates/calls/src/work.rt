@@ -14,28 +14,36 @@ fn print_replies(rt: &HostRuntime, replies: &[Reply]) -> Result<(), Failure> {
     Ok(())
 }
 
+// By the pages of a table.
+fn drive_pages<S: Store>(
+    alloc: Global,
+    store: &mut S,
+    table: &[u8],
+    book: Book,
+    requests: &[Request],
+) -> Result<Vec<Reply>, PagesError> {
+    match read_table(table) {
+        Ok(table) => drive_mapped(alloc, store, table, book, requests),
+        Err(unmapped) => Err(PagesError::Table(unmapped)),
+    }
+}
+
 // Over a store, by the pages of the table if there is one; a table that is refused ends all, with its number.
 fn answer_over<S: Store + Drop>(
     rt: &HostRuntime,
-    store: S,
+    mut store: S,
     table: Option<Vec<u8>>,
     book: Book,
     requests: &[Request],
 ) -> Result<(), Failure> {
-    let Some(text) = table else {
+    let Some(table) = table else {
         let (_store, replies) = drive(rt.alloc(), store, book, requests)?;
         return print_replies(rt, &replies);
     };
-    match read_table(&text) {
-        Ok(table) => match check_table(&table) {
-            Ok(()) => {
-                let store = Mapped::new(store, table);
-                let (_store, replies) = drive(rt.alloc(), store, book, requests)?;
-                print_replies(rt, &replies)
-            }
-            Err(unmapped) => Ok(println!(rt; "refused {}", unmapped.number())?),
-        },
-        Err(unmapped) => Ok(println!(rt; "refused {}", unmapped.number())?),
+    match drive_pages(rt.alloc(), &mut store, &table, book, requests) {
+        Ok(replies) => print_replies(rt, &replies),
+        Err(PagesError::Table(unmapped)) => Ok(println!(rt; "refused {}", unmapped.number())?),
+        Err(PagesError::Memory(full)) => Err(Failure::Memory(full)),
     }
 }
 
