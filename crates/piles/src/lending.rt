@@ -1,4 +1,5 @@
-ghost use Rattle.piles.specs.Ending.{AreFull, ending, ending_of, shown};
+ghost use Rattle.piles.specs.Images.{AreFull, shown};
+ghost use Rattle.session.specs.Serve.{ending, ending_of};
 ghost use Rattle.piles.specs.declared.lending.LendError.TheVariants.{Size as Refused};
 ghost use Rattle.store.specs.declared.check.SizeError.TheVariants.{Size};
 ghost use Rattle.std.specs.Prelude.{◌≡◌, ◌≢◌, ◌↔◌, Err, IfOk, length};
@@ -28,7 +29,8 @@ pub fn drive_memory(
 ) -> Result<Vec<Reply>, LendError>
     ensures refused { (result ≡ Err (Refused Size)) ↔ (length memory.old ≢ 65536) }
     ensures kept { length memory.old ≢ 65536 → memory.new ≡ memory.old }
-    ensures driven { IfOk result (λ v. ending v.items memory.new ≡ ending_of requests.now book memory.old) }
+    ensures driven { IfOk result (λ v. ending v.items memory.new
+        ≡ ending_of requests.now book memory.old) }
 {
     if let Err(refused) = check_size(memory) {
         return Err(LendError::Size(refused));

@@ -1,4 +1,4 @@
-ghost use Rattle.piles.specs.Ending.{ending, ending_of};
+ghost use Rattle.session.specs.Serve.{ending, ending_of};
 ghost use Rattle.piles.specs.declared.pages.PagesError.TheVariants.{Table};
 ghost use Rattle.stores.specs.Mapped.{is_page_table, mapped_bytes};
 ghost use Rattle.stores.specs.declared.table_check.TableError.TheVariants.{Page};

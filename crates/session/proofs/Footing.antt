@@ -5,9 +5,9 @@ use Rattle.bays.specs.declared.stage.Stage.{Stage}
 use Rattle.history.proofs.Footing.{any_footing, apply_over}
 use Rattle.history.specs.Calls.{Act, Answer, Call, call, close, shared}
 use Rattle.history.specs.Hall.{CallEnd, Hall, over}
-use Rattle.history.specs.History.{after}
+use Rattle.history.specs.History.{after, answers}
 use Rattle.session.proofs.Stages.{served_by}
-use Rattle.session.specs.Serve.{RequestEnd, act_of, calls_of, closed_to, driven, fitting, history, left, replies, request_end, serve}
+use Rattle.session.specs.Serve.{Ending, RequestEnd, act_of, calls_of, closed_to, driven, ending_from, fitting, history, left, replies, request_end, serve}
 use Rattle.session.specs.declared.request.Request.{Request}
 
 abbrev served_over : List ℕ → RequestEnd → RequestEnd
@@ -43,3 +43,13 @@ pub driven_over : (m : List ℕ) (qs : List Request) (H : Hall) → driven qs (o
 driven_over m qs H =
     ap left (ap (λ (h : List Call). after h (over m H)) (history_over m qs H) ∙ (any_footing m (history qs H) H).1)
     ∙ closed_over m 8 (after (history qs H) H)
+
+pub same_ending : (r s : List (Option Answer)) (a b : List Answer) (xs ys : List ℕ) → r ≡ s → a ≡ b → xs ≡ ys
+    → ◌≡◌ {A = Ending} (record { replies = r; answers = a; bytes = xs }) (record { replies = s; answers = b; bytes = ys })
+same_ending r s a b xs ys p o q = λ i. record { replies = p i; answers = o i; bytes = q i }
+
+pub ending_over : (m : List ℕ) (qs : List Request) (H : Hall) → ending_from qs (over m H) ≡ ending_from qs H
+ending_over m qs H =
+    same_ending _ _ _ _ _ _ (replies_over m qs H)
+    (ap (λ (h : List Call). answers h (over m H)) (history_over m qs H) ∙ (any_footing m (history qs H) H).0)
+    (ap (λ (K : Hall). K.bytes) (driven_over m qs H))

@@ -1,5 +1,5 @@
 -- What a list of requests is answered by one who keeps the handles.
-use Rattle.std.specs.Prelude.{◌≡◌, ℕ, zero, suc, Bool, true, ◌&&◌, List, [], ◌∷◌, ◌++◌, length, Some, None, Ok, Err, vec_items, Option, Result, ◌==◌}
+use Rattle.std.specs.Prelude.{◌≡◌, ℕ, zero, suc, Bool, true, ◌&&◌, List, [], ◌∷◌, ◌++◌, length, Some, None, Ok, Err, vec_items, map, Option, Result, ◌==◌}
 use Rattle.bays.specs.Bays.{bay_at}
 use Rattle.bays.specs.Refusals.{number}
 use Rattle.bays.specs.Stages.{at_stage, is_free}
@@ -7,9 +7,10 @@ use Rattle.bays.specs.declared.bay.Bay.{Bay}
 use Rattle.bays.specs.declared.refusal.Refusal.{Refusal}
 use Rattle.bays.specs.declared.stage.Stage.{Stage}
 use Rattle.bays.specs.declared.stage.Stage.TheVariants as stage
+use Rattle.book.specs.declared.book.Book.{Book}
 use Rattle.hall.specs.declared.shown.Shown.{Shown as Look}
 use Rattle.history.specs.Calls.{Act, Answer, Call, answered, call, close, copied, copy, done, grant, load, look, open_bay, own, refused, seal, set_all, shared, shown, stop_told, turn, turned}
-use Rattle.history.specs.Hall.{Hall}
+use Rattle.history.specs.Hall.{Hall, new}
 use Rattle.history.specs.History.{after, answers}
 use Rattle.session.specs.declared.request.Deed.{Deed}
 use Rattle.session.specs.declared.request.Deed.TheVariants.{Open, Grant, Seal, Close, Set, Turn, Look as LookAt, Load, Copy}
@@ -98,11 +99,13 @@ serve n c H = served (calls_of n c H) H
 -- the calls that a list of requests makes, and what is said to each request
 abbrev pub history : List Request → Hall → List Call
 history [] H = []
-history (q ∷ qs) H = calls_of q.bay (act_of q.deed) H ++ history qs (serve q.bay (act_of q.deed) H).hall
+history (q ∷ qs) H =
+    calls_of q.bay (act_of q.deed) H ++ history qs (serve q.bay (act_of q.deed) H).hall
 
 abbrev pub replies : List Request → Hall → List (Option Answer)
 replies [] H = []
-replies (q ∷ qs) H = (serve q.bay (act_of q.deed) H).reply ∷ replies qs (serve q.bay (act_of q.deed) H).hall
+replies (q ∷ qs) H =
+    (serve q.bay (act_of q.deed) H).reply ∷ replies qs (serve q.bay (act_of q.deed) H).hall
 
 -- what of the replies is an answer
 abbrev pub spoken_on : Option Answer → List Answer → List Answer
@@ -150,3 +153,28 @@ left H = closed_to 8 H
 -- the hall after all that is requested, at the end of the session
 abbrev pub driven : List Request → Hall → Hall
 driven qs H = left (after (history qs H) H)
+
+-- what the requests are replied, what of it is an answer, and the bytes that the hall leaves
+pub record Ending : Type 0 where
+  pub replies : List (Option Answer)
+  pub answers : List Answer
+  pub bytes : List ℕ
+
+abbrev pub ending : List Reply → List ℕ → Ending
+ending told bytes = record {
+  replies = map said told;
+  answers = spoken (map said told);
+  bytes = bytes;
+}
+
+-- with the answers of the history that the requests make
+abbrev pub ending_from : List Request → Hall → Ending
+ending_from qs H = record {
+  replies = replies qs H;
+  answers = answers (history qs H) H;
+  bytes = (driven qs H).bytes;
+}
+
+-- from a new hall over these bytes
+abbrev pub ending_of : List Request → Book → List ℕ → Ending
+ending_of qs book bytes = ending_from qs (new book.tables bytes)

@@ -47,7 +47,8 @@ fn open_in<S: Store>(hall: &mut Hall<S>, number: u8, slot: Slot) -> (Slot, Reply
 
 fn grant_in<S: Store>(hall: &mut Hall<S>, number: u8, slot: Slot, grant: Grant) -> (Slot, Reply)
     requires { Fits hall.old.bays number slot }
-    ensures is { request_end (said result.1) hall.new ≡ serve number (shared (Calls.grant grant)) hall.old }
+    ensures is { request_end (said result.1) hall.new
+        ≡ serve number (shared (Calls.grant grant)) hall.old }
     ensures fits { Fits hall.new.bays number result.0 }
 {
     match slot {
@@ -99,7 +100,8 @@ fn load_in<S: Store>(
     bytes: &[u8],
 ) -> (Slot, Reply)
     requires { Fits hall.old.bays number slot }
-    ensures is { request_end (said result.1) hall.new ≡ serve number (own (load address bytes.now)) hall.old }
+    ensures is { request_end (said result.1) hall.new
+        ≡ serve number (own (load address bytes.now)) hall.old }
     ensures fits { Fits hall.new.bays number result.0 }
 {
     match slot {
@@ -122,7 +124,8 @@ fn set_in<S: Store>(
     registers: Registers,
 ) -> (Slot, Reply)
     requires { Fits hall.old.bays number slot }
-    ensures is { request_end (said result.1) hall.new ≡ serve number (own (set_all registers)) hall.old }
+    ensures is { request_end (said result.1) hall.new
+        ≡ serve number (own (set_all registers)) hall.old }
     ensures fits { Fits hall.new.bays number result.0 }
 {
     match slot {
@@ -184,7 +187,8 @@ fn copy_with<S: Store, K: AtStage>(
     address: u16,
     length: usize,
 ) -> Result<Reply, AllocError>
-    ensures made { Made result hall.now hall.now (served (calls_by (Some K.STAGE) handle.now.bay (own (copy address length))) hall.now) }
+    ensures made { Made result hall.now hall.now
+        (served (calls_by (Some K.STAGE) handle.now.bay (own (copy address length))) hall.now) }
 {
     let mut buffer = vec![in alloc; 0u8; length.min(TOO_MANY)]?;
     match hall.copy(handle, address, &mut buffer) {
@@ -202,7 +206,8 @@ fn copy_in<S: Store>(
     length: usize,
 ) -> (Slot, Result<Reply, AllocError>)
     requires { Fits hall.old.bays number slot }
-    ensures made { Made result.1 hall.old hall.new (serve number (own (copy address length)) hall.old) }
+    ensures made { Made result.1 hall.old hall.new
+        (serve number (own (copy address length)) hall.old) }
     ensures fits { Fits hall.new.bays number result.0 }
 {
     match slot {

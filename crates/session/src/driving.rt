@@ -1,8 +1,5 @@
-ghost use Rattle.history.specs.Hall.{new};
-ghost use Rattle.history.specs.History.{answers};
-ghost use Rattle.session.specs.Serve;
-ghost use Rattle.session.specs.Serve.{driven, history, said, spoken};
-ghost use Rattle.std.specs.Prelude.{◌≡◌, IfOk, OnOk, map};
+ghost use Rattle.session.specs.Serve.{ending, ending_of};
+ghost use Rattle.std.specs.Prelude.{◌≡◌, IfOk, OnOk};
 
 use crate::request::{Reply, Request};
 use crate::session::Session;
@@ -17,9 +14,8 @@ pub fn drive<S: Store + Drop>(
     book: Book,
     requests: &[Request],
 ) -> Result<(S, Vec<Reply>), AllocError>
-    ensures replies { IfOk result (λ r. map said r.1.items ≡ Serve.replies requests.now (new book.tables (S.Store.bytes store))) }
-    ensures answers { IfOk result (λ r. spoken (map said r.1.items) ≡ answers (history requests.now (new book.tables (S.Store.bytes store))) (new book.tables (S.Store.bytes store))) }
-    ensures bytes { IfOk result (λ r. S.Store.bytes r.0 ≡ (driven requests.now (new book.tables (S.Store.bytes store))).bytes) }
+    ensures driven { IfOk result (λ r. ending r.1.items (S.Store.bytes r.0)
+        ≡ ending_of requests.now book (S.Store.bytes store)) }
     ensures footing { IfOk result (λ r. S.Store.footing r.0 ≡ S.Store.footing store) }
 {
     let mut session = Session::new(store, book);
@@ -34,9 +30,8 @@ pub fn drive_lent<S: Store>(
     book: Book,
     requests: &[Request],
 ) -> Result<Vec<Reply>, AllocError>
-    ensures replies { IfOk result (λ v. map said v.items ≡ Serve.replies requests.now (new book.tables (S.Store.bytes store.old))) }
-    ensures answers { IfOk result (λ v. spoken (map said v.items) ≡ answers (history requests.now (new book.tables (S.Store.bytes store.old))) (new book.tables (S.Store.bytes store.old))) }
-    ensures bytes { OnOk result (S.Store.bytes store.new ≡ (driven requests.now (new book.tables (S.Store.bytes store.old))).bytes) }
+    ensures driven { IfOk result (λ v. ending v.items (S.Store.bytes store.new)
+        ≡ ending_of requests.now book (S.Store.bytes store.old)) }
     ensures footing { OnOk result (S.Store.footing store.new ≡ S.Store.footing store.old) }
 {
     let (lent, replies) = drive(alloc, Lending::new(store), book, requests)?;

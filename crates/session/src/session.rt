@@ -60,7 +60,8 @@ impl<S: Store + Drop> Session<S> {
 
     // Serves a request, or leaves all as it was where there is no memory for what it copies.
     pub fn serve(&mut self, alloc: Global, request: &Request) -> Result<Reply, AllocError>
-        ensures { Made result self.old self.new (serve request.now.bay (act_of request.now.deed) self.old) }
+        ensures { Made result self.old self.new
+            (serve request.now.bay (act_of request.now.deed) self.old) }
     {
         let bay = request.bay;
         if !(1..=8).contains(&bay) {
@@ -82,7 +83,8 @@ impl<S: Store + Drop> Session<S> {
         requests: &[Request],
     ) -> Result<Vec<Reply>, AllocError>
         ensures replies { IfOk result (λ v. map said v.items ≡ replies requests.now self.old) }
-        ensures answers { IfOk result (λ v. spoken (map said v.items) ≡ answers (history requests.now self.old) self.old) }
+        ensures answers { IfOk result (λ v. spoken (map said v.items)
+            ≡ answers (history requests.now self.old) self.old) }
         ensures after { OnOk result (self.new ≡ after (history requests.now self.old) self.old) }
     {
         let mut replies = Vec::new(alloc);

@@ -1,6 +1,6 @@
 use Rattle.std.proofs.Common.{◌≡◌, ℕ, List, ap, sym, rules, ◌∙◌}
-use Rattle.piles.proofs.Seams.{same_ending, same_rest, same_start}
-use Rattle.piles.specs.Ending.{ending, ending_of}
+use Rattle.piles.proofs.Seams.{same_rest, same_start}
+use Rattle.session.specs.Serve.{ending, ending_of}
 use Rattle.stores.specs.Mapped.{mapped_bytes}
 use Rattle.piles.proofs.pages.drive_pages.Goals as goal
 
@@ -15,7 +15,7 @@ returns-clause-driven g c =
     = λ i. mapped_bytes (c.new-store.ensures.table i) (g.S.Store.bytes (n i)) in
     let end = ap (λ (u : List ℕ). mapped_bytes u (g.S.Store.bytes t.below.store.now)) (sym (k ∙ c.new-store.ensures.table)) in
     let e : ending c.in_ok-replies.replies.items (mapped_bytes c.args.table (g.S.Store.bytes t.below.store.now)) ≡ ending_of c.args.requests.now c.args.book (mapped_bytes c.args.table (g.S.Store.bytes c.args.below.now))
-    = same_ending _ _ _ _ _ _ c.in_ok-replies.ensures.replies c.in_ok-replies.ensures.answers (end ∙ c.in_ok-replies.ensures.bytes) ∙ ap (ending_of c.args.requests.now c.args.book) start in
+    = ap (ending c.in_ok-replies.replies.items) end ∙ c.in_ok-replies.ensures.driven ∙ ap (ending_of c.args.requests.now c.args.book) start in
     search rules
 
 pub returns-clause-footing : goal.returns-clause-footing

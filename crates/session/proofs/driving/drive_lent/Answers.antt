@@ -1,19 +1,10 @@
-use Rattle.std.proofs.Common.{ap, rules, ◌∙◌}
-use Rattle.history.specs.Hall.{new}
-use Rattle.history.specs.History.{answers}
-use Rattle.session.specs.Serve.{driven, history, replies}
+use Rattle.std.proofs.Common.{◌≡◌, ap, rules, ◌∙◌}
+use Rattle.session.specs.Serve.{ending, ending_of}
 use Rattle.session.proofs.driving.drive_lent.Goals as goal
 
-pub returns-clause-replies : goal.returns-clause-replies
-returns-clause-replies g c = c.in_ok-lent.ensures.replies ∙ ap (λ s. replies c.args.requests.now (new c.args.book.tables (g.S.Store.bytes s.now))) c.new.ensures
-
-pub returns-clause-answers : goal.returns-clause-answers
-returns-clause-answers g c =
-    c.in_ok-lent.ensures.answers ∙ ap (λ s. answers (history c.args.requests.now (new c.args.book.tables (g.S.Store.bytes s.now))) (new c.args.book.tables (g.S.Store.bytes s.now))) c.new.ensures
-
-pub returns-clause-bytes : goal.returns-clause-bytes
-returns-clause-bytes g c =
-    let b = c.in_ok-lent.ensures.bytes ∙ ap (λ s. (driven c.args.requests.now (new c.args.book.tables (g.S.Store.bytes s.now))).bytes) c.new.ensures in
+pub returns-clause-driven : goal.returns-clause-driven
+returns-clause-driven g c =
+    let e = c.in_ok-lent.ensures.driven ∙ ap (λ s. ending_of c.args.requests.now c.args.book (g.S.Store.bytes s.now)) c.new.ensures in
     search rules
 
 pub returns-clause-footing : goal.returns-clause-footing
