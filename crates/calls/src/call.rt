@@ -9,17 +9,9 @@ fn bay(word: &[u8]) -> Option<u8> {
     Some(u8::try_from(full(word)?).unwrap_or(u8::MAX))
 }
 
-fn kind(word: &[u8]) -> Option<Kind> {
-    match word {
-        b"read" => Some(Kind::Read),
-        b"write" => Some(Kind::Write),
-        _ => None,
-    }
-}
-
 fn grant(word: &[u8], first: &[u8], last: &[u8]) -> Option<Deed> {
     Some(Deed::Grant(Grant {
-        kind: kind(word)?,
+        kind: Kind::try_from(word).ok()?,
         first: half(first)?,
         last: half(last)?,
     }))

@@ -2,6 +2,7 @@ ghost use Rattle.std.specs.Prelude.{◌≡◌};
 ghost use Rattle.cli.specs.Faults.{IsAbout, IsOfFile};
 ghost use Rattle.cli.specs.declared.failure.Failure.TheVariants.{Memory, System, Unended as NoLineFeed};
 
+use access::Kind;
 use bays::Refusal;
 use std::alloc::{AllocError, Global};
 use std::io;
@@ -46,7 +47,7 @@ pub enum Fault {
     },
     #[error("grant {kind} {first} {last} is refused with {}: {refusal}", .refusal.number())]
     Granting {
-        kind: &'static str,
+        kind: Kind,
         first: u16,
         last: u16,
         refusal: Refusal,
@@ -54,7 +55,7 @@ pub enum Fault {
     // Refused for a grant of that bay, which is of that job.
     #[error("grant {kind} {first} {last} is refused with {}: it clashes with a grant of bay {bay} ({job})", Refusal::Clash.number())]
     Clash {
-        kind: &'static str,
+        kind: Kind,
         first: u16,
         last: u16,
         bay: u8,
@@ -159,7 +160,7 @@ mod tests {
     #[test]
     fn a_refused_grant_is_told_with_its_job(rt: HostRuntime) -> Result<(), Fail> {
         let fault = Fault::Granting {
-            kind: "write",
+            kind: Kind::Write,
             first: 4128,
             last: 4159,
             refusal: Refusal::Full,
@@ -175,7 +176,7 @@ mod tests {
     #[test]
     fn a_grant_that_clashes_is_told_with_the_other_bay(rt: HostRuntime) -> Result<(), Fail> {
         let fault = Fault::Clash {
-            kind: "write",
+            kind: Kind::Write,
             first: 4128,
             last: 4159,
             bay: 1,

@@ -1,4 +1,5 @@
-// What the programs share: the words that they are given, their files, runs over records, and the line that says why one failed.
+// What the programs share: the words that they are given, their files, the values in a line, runs over records, and the line that says
+// why one failed. Begin with `Failure`, which each program ends with, and `files.rt`; specs/Runs.antt says what runs over records leave.
 #![tactic(auto)]
 
 mod arguments;

@@ -2,7 +2,7 @@ ghost use Rattle.access.specs.Access.{held, sight_of};
 ghost use Rattle.machine.specs.Address;
 ghost use Rattle.machine.specs.Address.{base, far_base, formed, wrapped};
 ghost use Rattle.machine.specs.Plan.{obey, placed};
-ghost use Rattle.machine.specs.Registers.{advanced, with_s};
+ghost use Rattle.machine.specs.Registers.{advanced};
 ghost use Rattle.std.specs.Prelude.{◌≡◌};
 
 use crate::mode::Mode;
@@ -40,35 +40,35 @@ pub(crate) fn address(terms: Terms) -> Result<u16, Cause>
 }
 
 #[inline(always)]
-fn base_of(registers: &Registers, s: u16, m: u8) -> u16
-    ensures { result ≡ base (with_s registers.now s) m }
+fn base_of(registers: &Registers, m: u8) -> u16
+    ensures { result ≡ base (advanced registers.now) m }
 {
     match m {
         0 => registers.l,
-        1 => s,
+        1 => registers.s.wrapping_add(2),
         2 => registers.y,
         _ => registers.z,
     }
 }
 
 #[inline(always)]
-fn far_base_of(registers: &Registers, s: u16, m: u8) -> u16
-    ensures { result ≡ far_base (with_s registers.now s) m }
+fn far_base_of(registers: &Registers, m: u8) -> u16
+    ensures { result ≡ far_base (advanced registers.now) m }
 {
-    if m == 1 { 0 } else { base_of(registers, s, m) }
+    if m == 1 { 0 } else { base_of(registers, m) }
 }
 
-/// The address of an item by the formats without a pointer; none by the others. S is taken as it is given, at the next instruction.
+/// The address of an item by the formats without a pointer; none by the others. S is taken at the next instruction.
 #[inline(always)]
-pub fn direct(mode: Mode, item: Item, s: u16, registers: &Registers) -> Option<Terms>
-    ensures { result ≡ Address.direct mode item (with_s registers.now s) }
+pub fn direct(mode: Mode, item: Item, registers: &Registers) -> Option<Terms>
+    ensures { result ≡ Address.direct mode item (advanced registers.now) }
 {
     let offset = u32::from(mode.d) * u32::from(item.size());
     match mode.format {
         Format::A1 => Some(Terms::plain(offset)),
-        Format::A2 => Some(Terms::plain(u32::from(base_of(registers, s, mode.m)) + offset)),
+        Format::A2 => Some(Terms::plain(u32::from(base_of(registers, mode.m)) + offset)),
         Format::A5 => Some(Terms::indexed(
-            u32::from(far_base_of(registers, s, mode.m)) + offset,
+            u32::from(far_base_of(registers, mode.m)) + offset,
             registers.x,
             item.size(),
         )),
@@ -77,13 +77,13 @@ pub fn direct(mode: Mode, item: Item, s: u16, registers: &Registers) -> Option<T
 }
 
 #[inline(always)]
-fn pointer(mode: Mode, s: u16, registers: &Registers) -> Option<Terms>
-    ensures { result ≡ Address.pointer mode (with_s registers.now s) }
+fn pointer(mode: Mode, registers: &Registers) -> Option<Terms>
+    ensures { result ≡ Address.pointer mode (advanced registers.now) }
 {
     let offset = u32::from(mode.d) * 2;
     match mode.format {
         Format::A3 => Some(Terms::plain(offset)),
-        Format::A4 => Some(Terms::plain(u32::from(base_of(registers, s, mode.m)) + offset)),
+        Format::A4 => Some(Terms::plain(u32::from(base_of(registers, mode.m)) + offset)),
         _ => None,
     }
 }
@@ -107,11 +107,10 @@ pub(crate) fn form<S: Store>(
 ) -> Result<u16, Cause>
     ensures { result ≡ obey (sight_of view.now) (formed mode item (advanced registers.now)) }
 {
-    let next = registers.s.wrapping_add(2);
-    if let Some(terms) = direct(mode, item, next, registers) {
+    if let Some(terms) = direct(mode, item, registers) {
         return address(terms);
     }
-    let terms = pointer(mode, next, registers).ok_or(Cause::Undefined)?;
+    let terms = pointer(mode, registers).ok_or(Cause::Undefined)?;
     through(address(terms)?, registers.x, item.size(), &view.reborrow())
 }
 

@@ -4,10 +4,11 @@ ghost use Rattle.std.specs.Prelude.{◌≡◌};
 use word::Register;
 
 /// The terms of an address: those without sign are added up in `start`; to them comes the signed `index` times `scale`.
+// In this order they have 12 bytes. Of 8 bytes they would go from hand to hand packed in one number, which every step would part again.
 #[derive(Clone, Copy, Debug, PartialEq, Eq)]
 pub struct Terms {
-    pub start: u32,
     pub index: u16,
+    pub start: u32,
     pub scale: u16,
 }
 
@@ -38,7 +39,12 @@ impl Terms {
     fn exact(self) -> i64
         ensures { result ≡ Address.exact self }
     {
-        i64::from(self.start) + self.index.signed() * i64::from(self.scale)
+        let start = i64::from(self.start);
+        // Asked first: where terms without an index are formed, it is known, and nothing is multiplied.
+        if self.scale == 0 {
+            return start;
+        }
+        start + self.index.signed() * i64::from(self.scale)
     }
 
     /// The exact sum, cut to 16 bits.

@@ -3,19 +3,12 @@ ghost use Rattle.std.specs.Option.{option_copied};
 ghost use Rattle.std.specs.Prelude.{◌≡◌};
 
 use crate::institute::Institute;
-use access::{Grant, Kind};
+use access::Grant;
 use bays::{Refusal, clash_with_any};
 use cli::{Failure, Fault};
 use session::{Deed, Reply, Request, Session};
 use std::alloc::{AllocError, Global};
 use store::Store;
-
-fn word(kind: Kind) -> &'static str {
-    match kind {
-        Kind::Read => "read",
-        Kind::Write => "write",
-    }
-}
 
 // Serves a request of a bay, and tells whether it was refused.
 fn serve<S: Store + Drop>(
@@ -86,7 +79,6 @@ fn refused_grant(
     refusal: Refusal,
 ) -> Result<Fault, AllocError> {
     let Grant { kind, first, last } = grant;
-    let kind = word(kind);
     match clashing(earlier, grant) {
         Some(other) if refusal == Refusal::Clash => Ok(Fault::Clash {
             kind,
@@ -188,7 +180,7 @@ mod tests {
 
     #[test]
     fn a_grant_is_told_with_the_bay_that_it_clashes_with(rt: HostRuntime) -> Result<(), Fail> {
-        let heap = rt.alloc();
+        let alloc = rt.alloc();
         let institutes = [
             institute(&rt, alloc, "a.job", FIRST),
             institute(&rt, alloc, "b.job", SECOND),
@@ -208,7 +200,7 @@ mod tests {
 
     #[test]
     fn a_bay_that_is_taken_is_told_with_the_job_that_has_it(rt: HostRuntime) -> Result<(), Fail> {
-        let heap = rt.alloc();
+        let alloc = rt.alloc();
         let institutes = [
             institute(&rt, alloc, "a.job", FIRST),
             institute(&rt, alloc, "b.job", SECOND),

@@ -3,8 +3,6 @@ use Rattle.history.specs.Hall.{CallEnd, new, over}
 use Rattle.client.proofs.Visits.{grant_answer, not_granted, open_done, prepared, seal_done, told_grant, turned_stage}
 use Rattle.client.proofs.visiting.visit.Goals as goal
 
-
-
 pub returns-in_err-preparing : goal.returns-in_err-preparing
 returns-in_err-preparing g c =
     let z = ap (λ (t : CallEnd). t.answer) c.in_err-preparing.ensures.is ∙ open_done c.new-hall.result (g.S.Store.footing c.args.store) c.args.book.tables (g.S.Store.bytes c.args.store) c.new-hall.ensures.made in
