@@ -1,5 +1,5 @@
 -- What a visit to a new hall is answered.
-use Rattle.std.specs.Prelude.{ℕ, cond, nat_le}
+use Rattle.std.specs.Prelude.{ℕ, nat_le, if◌then◌else◌}
 use Rattle.access.specs.declared.rights.Grant.{Grant}
 use Rattle.bays.specs.declared.stage.Stage.TheVariants.{Preparing, Sealed}
 use Rattle.history.specs.Calls.{Answer, call, grant, open_bay, own, refused, seal, shared, turn}
@@ -14,4 +14,5 @@ sealed g H = (apply (call 1 Preparing (shared seal)) (granted g H).hall).hall
 
 -- what the turn is answered, or 4 for a grant whose last address is below its first
 abbrev pub visited : Grant → ℕ → Hall → Answer
-visited g n H = cond (nat_le g.first g.last) (apply (call 1 Sealed (own (turn n))) (sealed g H)).answer (refused 4)
+visited g n H =
+    if nat_le g.first g.last then (apply (call 1 Sealed (own (turn n))) (sealed g H)).answer else refused 4

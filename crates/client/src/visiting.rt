@@ -22,14 +22,15 @@ fn leave<S: Store, K: AtStage>(hall: &mut Hall<S>, handle: Handle<K>)
     }
 }
 
-// One turn in a bay of a new hall, with one grant. Whatever the calls answer, the handle is given back.
+/// One turn in a bay of a new hall, with one grant. Whatever the calls answer, the handle is given back.
 pub fn visit<S: Store + Drop>(
     store: S,
     book: Book,
     grant: Grant,
     budget: u16,
 ) -> Result<Turned, Refusal>
-    ensures { answered (λ t. turned t.steps (stop_told t.stop)) (λ e. e) result ≡ visited grant budget (over (S.Store.footing store) (new book.tables (S.Store.bytes store))) }
+    ensures { answered (λ t. turned t.steps (stop_told t.stop)) (λ e. e) result
+        ≡ visited grant budget (over (S.Store.footing store) (new book.tables (S.Store.bytes store))) }
 {
     let mut hall = Hall::new(store, book);
     let preparing = hall.open(1)?;
