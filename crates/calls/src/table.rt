@@ -18,8 +18,8 @@ pub fn read_table(text: &[u8]) -> Result<[u8; 64], TableError> {
     for page in table.iter_mut() {
         *page = next_page(&mut lines)?;
     }
-    if !lines.rest.is_empty() {
-        return Err(TableError::Page);
+    match lines.next_line() {
+        Ok(None) => Ok(table),
+        _ => Err(TableError::Page),
     }
-    Ok(table)
 }

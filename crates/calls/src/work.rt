@@ -3,9 +3,11 @@ use crate::script::read_script;
 use crate::table::read_table;
 use book::Book;
 use cli::{Failure, read_file, read_input, words, zeroed};
+use piles::{PagesError, drive_mapped};
 use session::{Reply, Request, drive};
+use std::alloc::Global;
 use store::{Store, check_size};
-use stores::{Image, Mapped, check_table};
+use stores::Image;
 
 fn print_replies(rt: &HostRuntime, replies: &[Reply]) -> Result<(), Failure> {
     for reply in replies {
