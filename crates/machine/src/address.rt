@@ -55,7 +55,11 @@ fn base_of(registers: &Registers, ahead: u16, m: u8) -> u16
 fn far_base_of(registers: &Registers, ahead: u16, m: u8) -> u16
     ensures { result ≡ far_base (onward registers.now ahead) m }
 {
-    if m == 1 { 0 } else { base_of(registers, ahead, m) }
+    if m == 1 {
+        0
+    } else {
+        base_of(registers, ahead, m)
+    }
 }
 
 /// The address of an item by the formats without a pointer; none by the others. S is taken so many bytes ahead: 2 where it is at the

@@ -76,10 +76,8 @@ fn obey_word<S: Store>(
     registers: &mut Registers,
     view: &View<S>,
 ) -> Result<Option<Pending>, Cause>
-    ensures {
-        ending result registers.new
-        ≡ settled registers.old (perform (sight_of view.now) (planned (reading book.now.tables) registers.old))
-    }
+    ensures { ending result registers.new
+        ≡ settled registers.old (perform (sight_of view.now) (planned (reading book.now.tables) registers.old)) }
 {
     let word = at_place(Place::Fetch, view.fetch(registers.s))?;
     obey_reading(book.reading(word), registers, view)
@@ -121,10 +119,8 @@ pub(crate) fn obey_next<S: Store>(
     store: &mut S,
     reach: &Reach,
 ) -> Result<(), Stop>
-    ensures is {
-        step_end result registers.new (S.Store.bytes store.new)
-        ≡ step_of (reading book.now.tables) reach.now registers.old (S.Store.bytes store.old)
-    }
+    ensures is { step_end result registers.new (S.Store.bytes store.new)
+        ≡ step_of (reading book.now.tables) reach.now registers.old (S.Store.bytes store.old) }
     ensures footing { S.Store.footing store.new ≡ S.Store.footing store.old }
 {
     let res = obey_word(book, registers, &View::new(store, reach));
@@ -139,24 +135,16 @@ pub fn step<S: Store>(
     store: &mut S,
     rights: &Rights,
 ) -> Result<(), Stop>
-    ensures is {
-        step_end result registers.new (S.Store.bytes store.new)
-        ≡ step_of (reading book.now.tables) rights.now registers.old (S.Store.bytes store.old)
-    }
-    ensures numbers {
-        told_of result
-        ≡ told_of (step_of (reading book.now.tables) rights.now registers.old (S.Store.bytes store.old)).answer
-    }
+    ensures is { step_end result registers.new (S.Store.bytes store.new)
+        ≡ step_of (reading book.now.tables) rights.now registers.old (S.Store.bytes store.old) }
+    ensures numbers { told_of result
+        ≡ told_of (step_of (reading book.now.tables) rights.now registers.old (S.Store.bytes store.old)).answer }
     ensures footing { S.Store.footing store.new ≡ S.Store.footing store.old }
 
     // The laws of steps.
-    ensures stop_alters_nothing {
-        Unaltered result registers.old registers.new (S.Store.bytes store.old) (S.Store.bytes store.new)
-    }
-    ensures writes_its_operand {
-        let may = operand_granted (reading book.now.tables) rights.now registers.old (S.Store.bytes store.old) in
-        Only may (S.Store.bytes store.old) (S.Store.bytes store.new)
-    }
+    ensures stop_alters_nothing { Unaltered result registers.old registers.new (S.Store.bytes store.old) (S.Store.bytes store.new) }
+    ensures writes_its_operand { let may = operand_granted (reading book.now.tables) rights.now registers.old (S.Store.bytes store.old) in
+        Only may (S.Store.bytes store.old) (S.Store.bytes store.new) }
     ensures reads_granted_bytes { Local }
     ensures operands_by_name { OperandsByName }
 {

@@ -53,10 +53,8 @@ fn run_steps<S: Store>(
     reach: &Reach,
     budget: u16,
 ) -> Result<(), Turned>
-    ensures is {
-        run_end registers.new (S.Store.bytes store.new) (turned_by budget result)
-        ≡ run (reading book.now.tables) reach.now budget 0 registers.old (S.Store.bytes store.old)
-    }
+    ensures is { run_end registers.new (S.Store.bytes store.new) (turned_by budget result)
+        ≡ run (reading book.now.tables) reach.now budget 0 registers.old (S.Store.bytes store.old) }
     ensures footing { S.Store.footing store.new ≡ S.Store.footing store.old }
 {
     for steps in 0..budget {
@@ -66,11 +64,7 @@ fn run_steps<S: Store>(
 }
 
 /// Steps up to the budget, or up to a stop.
-#[tactic(auto, using(
-    crate::proofs::Split::split,
-    crate::proofs::Moving::moves_bytes,
-    crate::proofs::Moving::moves_halfwords
-))]
+#[tactic(auto, using(crate::proofs::Split::split, crate::proofs::Moving::moves_bytes, crate::proofs::Moving::moves_halfwords))]
 pub fn turn<S: Store>(
     book: &Book,
     registers: &mut Registers,
@@ -78,10 +72,8 @@ pub fn turn<S: Store>(
     rights: &Rights,
     budget: u16,
 ) -> Turned
-    ensures is {
-        run_end registers.new (S.Store.bytes store.new) result
-        ≡ run (reading book.now.tables) rights.now budget 0 registers.old (S.Store.bytes store.old)
-    }
+    ensures is { run_end registers.new (S.Store.bytes store.new) result
+        ≡ run (reading book.now.tables) rights.now budget 0 registers.old (S.Store.bytes store.old) }
     ensures footing { S.Store.footing store.new ≡ S.Store.footing store.old }
 
     // The laws of turns.

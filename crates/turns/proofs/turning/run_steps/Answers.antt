@@ -16,8 +16,7 @@ returns-in_err-after_steps-clause-is g c =
 pub loop-steps-preserved : goal.loop-steps-preserved
 loop-steps-preserved g c =
     let n : ℕ = c.args.budget - (c.loop-steps.steps + 1) in
-    let d : c.args.budget - c.loop-steps.steps ≡ suc n = omega arith in
-    (
+    let d : c.args.budget - c.loop-steps.steps ≡ suc n = omega arith in (
       sym (goes_on (reading c.args.book.now.tables) c.args.reach.now c.loop-steps.registers _ _ _ n c.loop-steps.steps c.obey_next.result _ c.obey_next.ensures.is (sym c.in_ok-after_steps.was ∙ c.after_steps.ensures)) ∙ rw d at c.loop-steps.invariant.0,
       c.obey_next.ensures.footing ∙ c.loop-steps.invariant.1,
     )
