@@ -1,7 +1,7 @@
 ghost use Rattle.std.specs.Prelude.{◌≤◌, IfOk};
 
 use crate::unread::Unread;
-use access::{Rights, Grant, Kind};
+use access::{Grant, Kind, Rights};
 use machine::Registers;
 use text::decimal;
 
