@@ -20,7 +20,12 @@ records_of j bs = pieces (max (2 * j.input.halfwords) 1) bs
 -- a run with each record, each from the bytes that the one before it left
 abbrev pub runs : (ℕ → Reading) → Job → List ℕ → List (List ℕ) → List Run
 runs reads j bs [] = []
-runs reads j bs (counts ∷ rest) = recorded reads j bs counts ∷ runs reads j (recorded reads j bs counts).bytes rest
+runs reads j bs (counts ∷ rest) =
+    recorded reads j bs counts ∷ runs reads j (recorded reads j bs counts).bytes rest
+
+-- those with all records
+abbrev pub all_runs : (ℕ → Reading) → Job → List ℕ → List ℕ → List Run
+all_runs reads j bs records = runs reads j bs (records_of j records)
 
 -- what lies in the job's output
 abbrev pub output_in : Job → List ℕ → List ℕ

@@ -2,7 +2,7 @@ ghost use Rattle.std.specs.List.{FoldsTo, flat_map};
 ghost use Rattle.std.specs.Prelude.{◌≡◌, ◌++◌, IfOk, OnOk, map};
 ghost use Rattle.book.specs.Readings.{reading};
 ghost use Rattle.cli.specs.Halted.{halt_ended};
-ghost use Rattle.cli.specs.Runs.{bytes_left, output_in, output_of, ran_of, records_of, runs};
+ghost use Rattle.cli.specs.Runs.{all_runs, bytes_left, output_in, output_of, ran_of};
 
 use access::Cause;
 use book::Book;
@@ -20,7 +20,8 @@ pub fn halted(ran: Ran) -> bool
 
 // What lies in the job's output, at the end of `results`.
 fn append_output(job: &Job, store: &Owned, results: &mut Vec<u8>) -> Result<(), AllocError>
-    ensures { OnOk result (results.new.items ≡ results.old.items ++ output_in job.now store.now.held.items) }
+    ensures { OnOk result
+        (results.new.items ≡ results.old.items ++ output_in job.now store.now.held.items) }
 {
     append_all(store, job.output.address, job.output.bytes(), results)
 }
@@ -36,9 +37,13 @@ pub fn run_records<E: From<AllocError>, F: FnMut(Ran) -> Result<(), E>>(
     mut told: F,
 ) -> Result<Vec<u8>, E>
     requires { F.IsAlwaysCallable told }
-    ensures results { IfOk result (λ v. v.items ≡ flat_map (output_of job.now) (runs (reading book.now.tables) job.now store.old.held.items (records_of job.now records.now))) }
-    ensures calls { OnOk result ((last : F) × FoldsTo (λ now ran next. F.step now ran (Ok tt) next) told (map ran_of (runs (reading book.now.tables) job.now store.old.held.items (records_of job.now records.now))) last) }
-    ensures bytes { OnOk result (store.new.held.items ≡ bytes_left store.old.held.items (runs (reading book.now.tables) job.now store.old.held.items (records_of job.now records.now))) }
+    ensures results { let all = all_runs (reading book.now.tables) job.now store.old.held.items records.now in
+        IfOk result (λ v. v.items ≡ flat_map (output_of job.now) all) }
+    ensures calls { let all = all_runs (reading book.now.tables) job.now store.old.held.items records.now in
+        OnOk result (
+        (last : F) × FoldsTo (λ now ran next. F.step now ran (Ok tt) next) told (map ran_of all) last) }
+    ensures bytes { let all = all_runs (reading book.now.tables) job.now store.old.held.items records.now in
+        OnOk result (store.new.held.items ≡ bytes_left store.old.held.items all) }
 {
     let mut results = Vec::new(alloc);
     // No job that is read has records of no bytes; `max` is for one that is put together otherwise.

@@ -27,7 +27,10 @@ use Rattle.turns.specs.Turn.{Run, run}
 
 -- a new book with LD as 17 and B as 1
 abbrev pub tables : Tables
-tables = record new_tables { a = slice_set new_tables.a 17 (Some Ld); b = slice_set new_tables.b 1 (Some name.B) }
+tables = record new_tables {
+  a = slice_set new_tables.a 17 (Some Ld);
+  b = slice_set new_tables.b 1 (Some name.B);
+}
 
 -- one write grant for the whole store
 abbrev pub rights : Rights
