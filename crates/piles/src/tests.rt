@@ -113,10 +113,10 @@ fn what_a_lender_of_an_image_gets_back(rt: HostRuntime) -> Result<(), Fail> {
     let image = image(rt.alloc())?;
     let mut work = vec![in rt.alloc(); 9u8; 65536]?;
     let requests = history(rt.alloc())?;
-    let Ok((copied, _replies)) = drive_image(rt.alloc(), &image, &mut work, Book::new(), &requests)
-    else {
+    let Ok(end) = drive_image(rt.alloc(), &image, &mut work, Book::new(), &requests) else {
         panic!(rt; "two stores, and memory");
     };
+    let copied = end.0;
     assert_eq!(rt; &copied[0..4], [true, true, true, false].as_slice());
     assert_eq!(rt; at(&work, [999, 1000, 3000, 3001]), [246, 0, 0, 240]);
     assert_eq!(rt; at(&work, [3071, 3072, 65535, 0]), [59, 9, 9, 0]);
