@@ -1,5 +1,6 @@
 -- One turn of several, and the rest of the run.
-use Rattle.std.proofs.Common.{◌≡◌, ℕ, suc, ◌+◌, ◌-◌, ◌*◌, ◌<◌, true, false, List, Some, None, Option, refl, sym, ap, ◌∙◌, add_assoc, add_comm, suc-mul, arith}
+use Rattle.std.proofs.Common.{◌≡◌, ℕ, suc, ◌+◌, ◌-◌, ◌*◌, ◌/◌, ◌%◌, ◌<◌, true, false, List, Some, None, Option, refl, sym, ap, ◌∙◌, add_assoc, add_comm, suc-mul, arith}
+use Rattle.std.proofs.lemmas.Nat.{div-add-mod'}
 use Rattle.std.specs.Option.{is_some}
 use Rattle.isa.specs.declared.reading.Reading.{Reading}
 use Rattle.access.specs.declared.rights.Rights.{Rights}
@@ -24,19 +25,30 @@ continues : (o : Option Stop) (q : Run) (next : Registers → List ℕ → Run) 
 continues None q next h = refl
 continues (Some u) q next h = cc
 
--- k turns are done, and t is the one that follows
-module _ (reads : ℕ → Reading) (rights : Rights) (turns k b : ℕ) (h : k < turns) (r r' : Registers) (bs bs' : List ℕ) (t : Turned) (e : after r' bs' t ≡ run reads rights b 0 r bs) where
+-- one of the turns that are left, and the others
+pub one_more : (turns k b : ℕ) → k < turns → (turns - k) * b ≡ b + (turns - (k + 1)) * b
+one_more turns k b h = let d : turns - k ≡ suc (turns - (k + 1)) = omega arith in ap (λ i. i * b) d ∙ suc-mul (turns - (k + 1)) b ∙ add_comm ((turns - (k + 1)) * b) b
+
+-- n steps are turns of b steps, and one for the rest
+pub whole_and_rest : (n m b : ℕ) → m ≡ n → n ≡ m / b * b + m % b
+whole_and_rest n m b e = sym e ∙ sym (div-add-mod' m b)
+
+-- of the steps that are left some are a turn, and t is that turn
+module _ (reads : ℕ → Reading) (rights : Rights) (left b n : ℕ) (d : left ≡ b + n) (r r' : Registers) (bs bs' : List ℕ) (t : Turned) (e : after r' bs' t ≡ run reads rights b 0 r bs) where
   abbrev rest : Registers → List ℕ → Run
-  rest = run reads rights ((turns - (k + 1)) * b) 0
+  rest = run reads rights n 0
 
-  one_more : (turns - k) * b ≡ b + (turns - (k + 1)) * b
-  one_more = let d : turns - k ≡ suc (turns - (k + 1)) = omega arith in ap (λ i. i * b) d ∙ suc-mul (turns - (k + 1)) b ∙ add_comm ((turns - (k + 1)) * b) b
+  parted : run reads rights left 0 r bs ≡ unless t.stop (after r' bs' t) rest
+  parted = ap (λ i. run reads rights i 0 r bs) d ∙ split reads rights b n r bs ∙ ap (λ q. followed q rest) (sym e)
 
-  parted : run reads rights ((turns - k) * b) 0 r bs ≡ unless t.stop (after r' bs' t) rest
-  parted = ap (λ n. run reads rights n 0 r bs) one_more ∙ split reads rights b ((turns - (k + 1)) * b) r bs ∙ ap (λ q. followed q rest) (sym e)
+  pub went_on : is_some t.stop ≡ false → later t.steps (rest r' bs') ≡ run reads rights left 0 r bs
+  went_on h = sym (parted ∙ continues t.stop (after r' bs' t) rest h)
 
-  pub goes_on : (s : ℕ) → is_some t.stop ≡ false → later (s + t.steps) (rest r' bs') ≡ later s (run reads rights ((turns - k) * b) 0 r bs)
-  goes_on s h = sym (ap (later s) (parted ∙ continues t.stop (after r' bs' t) rest h) ∙ again s t.steps (rest r' bs'))
+  pub stopped : is_some t.stop ≡ true → after r' bs' t ≡ run reads rights left 0 r bs
+  stopped h = sym (parted ∙ ends t.stop (after r' bs' t) rest h)
 
-  pub stops : (s : ℕ) → is_some t.stop ≡ true → later s (after r' bs' t) ≡ later s (run reads rights ((turns - k) * b) 0 r bs)
-  stops s h = sym (ap (later s) (parted ∙ ends t.stop (after r' bs' t) rest h))
+  pub goes_on : (s : ℕ) → is_some t.stop ≡ false → later (s + t.steps) (rest r' bs') ≡ later s (run reads rights left 0 r bs)
+  goes_on s h = sym (again s t.steps (rest r' bs')) ∙ ap (later s) (went_on h)
+
+  pub stops : (s : ℕ) → is_some t.stop ≡ true → later s (after r' bs' t) ≡ later s (run reads rights left 0 r bs)
+  stops s h = ap (later s) (stopped h)

@@ -1,1 +1,3 @@
-pub mod Asked
+pub mod Runs
+pub mod Standing
+pub mod Together

@@ -1,2 +1,3 @@
 pub mod Clashes
 pub mod Records
+pub mod Runs

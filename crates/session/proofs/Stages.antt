@@ -27,7 +27,7 @@ there x (b ∷ l) zero s e = refl
 there x (b ∷ l) (suc k) s e = there x l k s e
 
 -- a bay with a stage is one of the list, and what is put there is found there
-put_there : (x : Bay) (l : List Bay) (n : ℕ) (s : Stage) → stage_of l n ≡ Some s → bay_at (put_bay l n x) n ≡ x
+pub put_there : (x : Bay) (l : List Bay) (n : ℕ) (s : Stage) → stage_of l n ≡ Some s → bay_at (put_bay l n x) n ≡ x
 unfolding bay_at put_bay
 put_there x l zero s e = cc
 put_there x l (suc k) s e = there x l k s e

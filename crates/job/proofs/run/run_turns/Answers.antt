@@ -1,17 +1,18 @@
-use Rattle.std.proofs.Common.{◌<◌, sym, ◌∙◌, arith}
+use Rattle.std.proofs.Common.{◌≡◌, ◌*◌, ap, sym, ◌∙◌}
 use Rattle.book.specs.Readings.{reading}
-use Rattle.job.proofs.Rest.{goes_on, stops}
+use Rattle.turns.specs.Laws.{later}
+use Rattle.job.proofs.Rest.{stopped, went_on, whole_and_rest}
 use Rattle.job.proofs.run.run_turns.Goals as goal
 
 pub returns-then-is_some : goal.returns-then-is_some
 returns-then-is_some g c =
-    let h : c.loop-k._k < c.args.job.now.turns.count = omega arith in
-    rw c.from.ensures (stops (reading c.args.book.now.tables) c.args.job.now.rights c.args.job.now.turns.count c.loop-k._k c.args.job.now.turns.budget h c.loop-k.ran.registers c.turn-turned.new.registers (g.S.Store.bytes c.loop-k.store) (g.S.Store.bytes c.turn-turned.new.store) c.turn-turned.result c.turn-turned.ensures.is c.loop-k.ran.steps (sym c.if-is_some.ensures) ∙ c.loop-k.invariant.0)
+    let e : c.from.result * c.from-2.result ≡ c.args.job.now.turns.count * c.args.job.now.turns.budget = cc in
+    stopped (reading c.args.book.now.tables) c.args.job.now.rights _ _ _ (whole_and_rest _ _ 65535 e) c.args.job.now.registers c.run_some-ran.result.registers (g.S.Store.bytes c.args.store.now) (g.S.Store.bytes c.run_some-ran.new.store) (record { steps = c.run_some-ran.result.steps; stop = c.run_some-ran.result.stop }) c.run_some-ran.ensures.is (sym c.if-is_some.ensures)
 
-pub loop-k-preserved : goal.loop-k-preserved
-loop-k-preserved g c =
-    let h : c.loop-k._k < c.args.job.now.turns.count = omega arith in (
-      rw c.from.ensures (goes_on (reading c.args.book.now.tables) c.args.job.now.rights c.args.job.now.turns.count c.loop-k._k c.args.job.now.turns.budget h c.loop-k.ran.registers c.turn-turned.new.registers (g.S.Store.bytes c.loop-k.store) (g.S.Store.bytes c.turn-turned.new.store) c.turn-turned.result c.turn-turned.ensures.is c.loop-k.ran.steps (sym c.if-is_some.ensures) ∙ c.loop-k.invariant.0),
-      omega (arith, c.loop-k.invariant.1),
-      c.loop-k.invariant.2,
+pub returns : goal.returns
+returns g c =
+    let e : c.from.result * c.from-2.result ≡ c.args.job.now.turns.count * c.args.job.now.turns.budget = cc in
+    rw c.from-3.ensures (
+    ap (later c.run_some-ran.result.steps) c.turn-last.ensures.is
+    ∙ went_on (reading c.args.book.now.tables) c.args.job.now.rights _ _ _ (whole_and_rest _ _ 65535 e) c.args.job.now.registers c.run_some-ran.result.registers (g.S.Store.bytes c.args.store.now) (g.S.Store.bytes c.run_some-ran.new.store) (record { steps = c.run_some-ran.result.steps; stop = c.run_some-ran.result.stop }) c.run_some-ran.ensures.is (sym c.if-is_some.ensures)
     )
