@@ -1,7 +1,8 @@
 ghost use Rattle.bays.specs.Bays;
+ghost use Rattle.book.specs.Sound.{sound};
 ghost use Rattle.history.specs.Hall.{new, over};
-ghost use Rattle.history.specs.Laws.{AnyFooting, Confinement, Exchange, Isolation, Order};
-ghost use Rattle.std.specs.Prelude.{◌≡◌};
+ghost use Rattle.history.specs.Laws.{AnyFooting, Confinement, Exchange, FootingUnheard, Isolation, Order};
+ghost use Rattle.std.specs.Prelude.{◌≡◌, length, true};
 
 use crate::handle::{AtStage, Handle};
 use bays::{Bay, Refusal, Table};
@@ -34,12 +35,22 @@ impl<S: Store> Hall<S> {
         ensures exchange { Exchange }
         ensures confinement { Confinement }
         ensures any_footing { AnyFooting }
+        ensures footing_unheard { FootingUnheard }
     {
         Hall {
             store,
             book,
             table: Table::new(),
         }
+    }
+
+    /// What holds of every hall, whatever calls it met: it has eight bays, and its book is sound.
+    pub fn is_whole(&self)
+        ensures eight { length self.now.bays ≡ 8 }
+        ensures sound { sound self.now.book ≡ true }
+    {
+        let _table = &self.table;
+        let _book = &self.book;
     }
 
     /// The store, as the calls left it.

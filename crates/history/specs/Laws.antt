@@ -1,5 +1,5 @@
 -- The laws of every history, over every store and every book.
-use Rattle.std.specs.Prelude.{◌≡◌, ℕ, false, T, List, length, slice_index}
+use Rattle.std.specs.Prelude.{◌≡◌, ℕ, Bool, false, T, List, length, slice_index}
 use Rattle.book.specs.declared.tables.Tables.{Tables}
 use Rattle.history.specs.Calls.{Call}
 use Rattle.history.specs.Hall.{Hall, new, over}
@@ -39,3 +39,12 @@ abbrev pub AnyFooting : Type 0
 AnyFooting =
     (m : List ℕ) (h : List Call) (H : Hall)
     → (answers h (over m H) ≡ answers h H) × (after h (over m H) ≡ over m (after h H))
+
+-- nor does it matter to what a bay hears, and to what is granted: so the laws above, of new halls, are laws of the halls over every store
+abbrev pub FootingUnheard : Type 0
+FootingUnheard =
+    (m : List ℕ) (h : List Call) (H : Hall) (w at : ℕ) (u : Bool)
+    → (heard w h (over m H) ≡ heard w h H)
+    × ((granted w at h (over m H) ≡ granted w at h H)
+    × ((granted_exclusively w at h (over m H) ≡ granted_exclusively w at h H)
+    × (under_exclusive w at u h (over m H) ≡ under_exclusive w at u h H)))
