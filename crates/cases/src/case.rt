@@ -54,9 +54,12 @@ fn read_put<'a>(name: &[u8], format: &[u8], m: i32, d: i32) -> Result<Case<'a>, 
     }
 }
 
+// As many words as a line is read by, a `run` case having the most, and one more.
+const WORDS: usize = 18;
+
 impl<'a> Case<'a> {
     pub fn read(alloc: Global, line: &'a [u8]) -> Result<Case<'a>, Unread> {
-        let words: Vec<&'a [u8]> = line.split(|b| *b == b' ').collect(alloc)?;
+        let words: Vec<&'a [u8]> = line.split(|b| *b == b' ').take(WORDS).collect(alloc)?;
         match words.as_slice() {
             [b"run", words @ ..] => Ok(Case::Run(read_run(alloc, words)?)),
             [b"book", text, ..] => Ok(Case::Book(hex_bytes(alloc, text)?)),

@@ -30,7 +30,7 @@ fn results(
 
 pub fn demonstrate(rt: &HostRuntime) -> Result<(), Failure> {
     let words = words(rt)?;
-    let [book, listing, calibrate, undo] = words.as_slice() else {
+    let [book, listing, calibrate, undo, ..] = words.as_slice() else {
         return Err(Failure::Usage("demo BOOK LISTING CALIBRATE UNDO"));
     };
     let book = read_book(rt, book.as_str())?;
